@@ -1,4 +1,6 @@
 //! Known figures of the cipher and of the link, worked out by this code: a test to run before the first message.
+#![tactic(auto)]
+
 ghost use Rattle.std.specs.Prelude.{◌≡◌, true};
 ghost use Rattle.figures.specs.Figures.{FiguresHold};
 

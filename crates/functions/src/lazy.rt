@@ -19,7 +19,7 @@ impl<K: KeyedFunction> LazyTable<K> {
     pub fn new(below: K) -> Self
         ensures below { result.below ≡ below }
         ensures empty { result.entries ≡ replicate 256 None }
-        ensures sound { K.KeyedFunction.sound below → LazySound K.KeyedFunction.sound K.KeyedFunction.table result }
+        ensures sound { K.sound below → LazySound K.sound K.table result }
     {
         LazyTable {
             below,
@@ -32,7 +32,7 @@ impl<K: KeyedFunction> LazyTable<K> {
         ensures value { result ≡ self.old.below }
         ensures below { self.new.below ≡ below }
         ensures empty { self.new.entries ≡ replicate 256 None }
-        ensures sound { K.KeyedFunction.sound below → LazySound K.KeyedFunction.sound K.KeyedFunction.table self.new }
+        ensures sound { K.sound below → LazySound K.sound K.table self.new }
     {
         self.entries = [None; 256];
         std::mem::replace(&mut self.below, below)
@@ -47,16 +47,16 @@ impl<K: KeyedFunction> LazyTable<K> {
 }
 
 impl<K: KeyedFunction> KeyedFunction for LazyTable<K> {
-    ghost table = { λ l. K.KeyedFunction.table l.below };
+    ghost table = { λ l. K.table l.below };
 
-    ghost sound = { LazySound K.KeyedFunction.sound K.KeyedFunction.table };
+    ghost sound = { LazySound K.sound K.table };
 
-    ghost lawful = { λ k h. K.KeyedFunction.lawful k.below h.0 };
+    ghost lawful = { λ k h. K.lawful k.below h.0 };
 
     /// The image of a word; its entry is remembered from then on.
     fn apply(&mut self, a: u16) -> u16
-        ensures value { LazySound K.KeyedFunction.sound K.KeyedFunction.table self.old → result ≡ keyed (K.KeyedFunction.table self.old.below) a }
-        ensures kept { Kept (K.KeyedFunction.table self.old.below) (LazySound K.KeyedFunction.sound K.KeyedFunction.table self.old) (K.KeyedFunction.table self.new.below) (LazySound K.KeyedFunction.sound K.KeyedFunction.table self.new) }
+        ensures value { LazySound K.sound K.table self.old → result ≡ keyed (K.table self.old.below) a }
+        ensures kept { Kept (K.table self.old.below) (LazySound K.sound K.table self.old) (K.table self.new.below) (LazySound K.sound K.table self.new) }
         ensures remembered { self.new.entries ≡ slice_set self.old.entries (a / 256) (Some (bit_xor result a)) }
     {
         let i = high_byte(a);

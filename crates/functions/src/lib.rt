@@ -1,4 +1,6 @@
 //! The functions that the cipher is used with: keyed functions and coefficients, each proved against its interface, and a self-test.
+#![tactic(auto)]
+
 mod coefficient;
 mod figures;
 mod filled;

@@ -18,7 +18,7 @@ pub enum Sealer<K, C> {
 impl<K: KeyedFunction, C: Coefficient> Sealer<K, C> {
     /// Makes a call. A begin while a message is open, and any other call while none is, is out of turn and not made.
     pub fn take(self, call: SealerCall) -> (Self, SealerEntry)
-        ensures value { K.KeyedFunction.sound (sealer_function self) → (sealing result.0, result.1) ≡ sealer_made (function_of K.KeyedFunction (sealer_function self)) (C.Coefficient.image (sealer_coefficient self)) (sealing self) call }
+        ensures value { K.sound (sealer_function self) → (sealing result.0, result.1) ≡ sealer_made (function_of K.KeyedFunction (sealer_function self)) (C.image (sealer_coefficient self)) (sealing self) call }
         ensures coefficient { sealer_coefficient result.0 ≡ sealer_coefficient self }
         ensures kept { Keeps K.KeyedFunction (sealer_function self) (sealer_function result.0) }
         ensures fits { SealerCallFits call }
@@ -73,7 +73,7 @@ impl<K: KeyedFunction, C: Coefficient> Sealer<K, C> {
 impl<K: KeyedFunction, C: Coefficient> Receiver<K, C> {
     /// Makes a call.
     pub fn take(&mut self, call: ReceiverCall) -> ReceiverEntry
-        ensures value { K.KeyedFunction.sound self.old.function → (receiving self.new, result) ≡ receiver_made (function_of K.KeyedFunction self.old.function) (C.Coefficient.image self.old.coefficient) (receiving self.old) call }
+        ensures value { K.sound self.old.function → (receiving self.new, result) ≡ receiver_made (function_of K.KeyedFunction self.old.function) (C.image self.old.coefficient) (receiving self.old) call }
         ensures coefficient { self.new.coefficient ≡ self.old.coefficient }
         ensures kept { Keeps K.KeyedFunction self.old.function self.new.function }
         ensures fits { ReceiverCallFits call }

@@ -1,4 +1,6 @@
 //! The two ends of the link: a sealer and a receiver, histories of calls on both, and the law of a loss.
+#![tactic(auto)]
+
 mod call;
 mod ends;
 mod history;

@@ -43,7 +43,7 @@ impl<K: KeyedFunction, C: Coefficient> ReadySealer<K, C> {
 
     /// Begins a message with a nonce, which is used up.
     pub fn begin(self, nonce: Nonce) -> OpenMessage<K, C>
-        ensures registers { K.KeyedFunction.sound self.function → state result.registers ≡ begun (function_of K.KeyedFunction self.function) (C.Coefficient.image self.coefficient) (nonce_bytes nonce) }
+        ensures registers { K.sound self.function → state result.registers ≡ begun (function_of K.KeyedFunction self.function) (C.image self.coefficient) (nonce_bytes nonce) }
         ensures words { result.words ≡ 0 }
         ensures coefficient { result.coefficient ≡ self.coefficient }
         ensures kept { Keeps K.KeyedFunction self.function result.function }
@@ -83,7 +83,7 @@ impl<K: KeyedFunction, C: Coefficient> OpenMessage<K, C> {
 
     /// Closes the message: the sealer is ready again, its registers zero, and the tag is drawn.
     pub fn finish(mut self) -> (ReadySealer<K, C>, [u16; 8])
-        ensures value { K.KeyedFunction.sound self.function → result.1 ≡ tag (function_of K.KeyedFunction self.function) (state self.registers) }
+        ensures value { K.sound self.function → result.1 ≡ tag (function_of K.KeyedFunction self.function) (state self.registers) }
         ensures registers { state result.0.registers ≡ zeroed }
         ensures coefficient { result.0.coefficient ≡ self.coefficient }
         ensures kept { Keeps K.KeyedFunction self.function result.0.function }

@@ -1,4 +1,5 @@
 //! Worked examples of the calls of the link's two ends, as tests: each refusal, each edge value, and what is left afterwards.
+#![tactic(auto)]
 
 #[cfg(test)]
 mod tests {

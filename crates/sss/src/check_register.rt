@@ -40,7 +40,7 @@ impl CheckRegister {
 
     /// Takes the word `m`: the words shift, and m ⊕ A(c[0]) ⊕ c[4] ⊕ c[15] enters, all as they were before.
     pub fn step<C: Coefficient>(&mut self, a: &C, m: u16)
-        ensures { window self.new.cells ≡ check_step (image a.now) (window self.old.cells) m }
+        ensures { window self.new.cells ≡ check_step (C.image a.now) (window self.old.cells) m }
     {
         let entering = m ^ a.multiply(self.cells.at(0)) ^ self.cells.at(4) ^ self.cells.at(15);
         self.cells.push(entering);

@@ -42,9 +42,9 @@ impl CipherRegister {
     /// Feeds in the word `c`: the words shift, f(c >>> 8) is added to r[14], r[12] becomes its image, r[1] is rotated by 8. The function that
     /// steps it is one-to-one on words, by its law.
     pub fn step<K: KeyedFunction>(&mut self, f: &mut K, c: u16)
-        ensures register { sound f.old → window self.new.cells ≡ step (keyed (table f.old)) (window self.old.cells) c }
-        ensures one_to_one { sound f.old → OneToOne (keyed (table f.old)) }
-        ensures kept { Kept (table f.old) (sound f.old) (table f.new) (sound f.new) }
+        ensures register { K.sound f.old → window self.new.cells ≡ step (keyed (K.table f.old)) (window self.old.cells) c }
+        ensures one_to_one { K.sound f.old → OneToOne (keyed (K.table f.old)) }
+        ensures kept { Kept (K.table f.old) (K.sound f.old) (K.table f.new) (K.sound f.new) }
     {
         self.cells.push(c);
         let sum = self.cells.at(14).wrapping_add(f.apply(c.rotate_right(8)));
@@ -57,8 +57,8 @@ impl CipherRegister {
 
     /// The keystream word: (f(f(r[0] + r[16]) + r[1] + r[6] + r[13]) >>> 8) ⊕ r[0].
     pub fn keystream<K: KeyedFunction>(&self, f: &mut K) -> u16
-        ensures value { sound f.old → result ≡ keystream (keyed (table f.old)) (window self.now.cells) }
-        ensures kept { Kept (table f.old) (sound f.old) (table f.new) (sound f.new) }
+        ensures value { K.sound f.old → result ≡ keystream (keyed (K.table f.old)) (window self.now.cells) }
+        ensures kept { Kept (K.table f.old) (K.sound f.old) (K.table f.new) (K.sound f.new) }
     {
         let oldest = self.cells.at(0);
         let inner = f.apply(oldest.wrapping_add(self.cells.at(16)));
@@ -71,9 +71,9 @@ impl CipherRegister {
 
     /// Feeds in the word that `p` is sealed to, `p ⊕ v`, and answers it.
     pub fn feed<K: KeyedFunction>(&mut self, f: &mut K, p: u16) -> u16
-        ensures value { sound f.old → result ≡ ciphertext (keyed (table f.old)) (window self.old.cells) p }
-        ensures register { sound f.old → window self.new.cells ≡ fed (keyed (table f.old)) (window self.old.cells) p }
-        ensures kept { Kept (table f.old) (sound f.old) (table f.new) (sound f.new) }
+        ensures value { K.sound f.old → result ≡ ciphertext (keyed (K.table f.old)) (window self.old.cells) p }
+        ensures register { K.sound f.old → window self.new.cells ≡ fed (keyed (K.table f.old)) (window self.old.cells) p }
+        ensures kept { Kept (K.table f.old) (K.sound f.old) (K.table f.new) (K.sound f.new) }
     {
         let c = p ^ self.keystream(f);
         self.step(f, c);
@@ -82,9 +82,9 @@ impl CipherRegister {
 
     /// Feeds in eight zeros, and answers the eight words that they are sealed to.
     pub fn draw<K: KeyedFunction>(&mut self, f: &mut K) -> [u16; 8]
-        ensures value { sound f.old → result ≡ stepped (keyed (table f.old)) 8 (window self.old.cells) }
-        ensures register { sound f.old → window self.new.cells ≡ all_fed (keyed (table f.old)) (window self.old.cells) (replicate 8 0) }
-        ensures kept { Kept (table f.old) (sound f.old) (table f.new) (sound f.new) }
+        ensures value { K.sound f.old → result ≡ stepped (keyed (K.table f.old)) 8 (window self.old.cells) }
+        ensures register { K.sound f.old → window self.new.cells ≡ all_fed (keyed (K.table f.old)) (window self.old.cells) (replicate 8 0) }
+        ensures kept { Kept (K.table f.old) (K.sound f.old) (K.table f.new) (K.sound f.new) }
     {
         let mut words = [0; 8];
         for i in 0..8 {

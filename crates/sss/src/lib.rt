@@ -1,5 +1,7 @@
 //! SSS, a self-synchronizing stream cipher with a tag, as published: the registers and a message's core, over any keyed function and any
 //! coefficient.
+#![tactic(auto)]
+
 mod check_register;
 mod cipher_register;
 mod coefficient;

@@ -27,9 +27,9 @@ impl Registers {
         a: &C,
         words: &mut [MaskedWord],
     )
-        ensures after { sound f.old → words.new ≡ wire_words (keyed (table f.old)) (image a.now) (state self.old) words.old }
-        ensures registers { sound f.old → state self.new ≡ all_taken (keyed (table f.old)) (image a.now) (state self.old) words.old }
-        ensures kept { Kept (table f.old) (sound f.old) (table f.new) (sound f.new) }
+        ensures after { K.sound f.old → words.new ≡ wire_words (keyed (K.table f.old)) (C.image a.now) (state self.old) words.old }
+        ensures registers { K.sound f.old → state self.new ≡ all_taken (keyed (K.table f.old)) (C.image a.now) (state self.old) words.old }
+        ensures kept { Kept (K.table f.old) (K.sound f.old) (K.table f.new) (K.sound f.new) }
     {
         for word in words.iter_mut() {
             word.text = self.seal_word(f, a, word.mask, word.text);
@@ -43,9 +43,9 @@ impl Registers {
         a: &C,
         words: &mut [MaskedWord],
     )
-        ensures after { sound f.old → words.new ≡ plain_words (keyed (table f.old)) (image a.now) (state self.old) words.old }
-        ensures registers { sound f.old → state self.new ≡ all_taken (keyed (table f.old)) (image a.now) (state self.old) (plain_words (keyed (table f.old)) (image a.now) (state self.old) words.old) }
-        ensures kept { Kept (table f.old) (sound f.old) (table f.new) (sound f.new) }
+        ensures after { K.sound f.old → words.new ≡ plain_words (keyed (K.table f.old)) (C.image a.now) (state self.old) words.old }
+        ensures registers { K.sound f.old → state self.new ≡ all_taken (keyed (K.table f.old)) (C.image a.now) (state self.old) (plain_words (keyed (K.table f.old)) (C.image a.now) (state self.old) words.old) }
+        ensures kept { Kept (K.table f.old) (K.sound f.old) (K.table f.new) (K.sound f.new) }
     {
         for word in words.iter_mut() {
             word.text = self.open_word(f, a, word.mask, word.text);
@@ -60,8 +60,8 @@ pub fn seal_message<K: KeyedFunction, C: Coefficient>(
     nonce: &[u8],
     words: &mut [MaskedWord],
 ) -> Result<[u16; 8], Fault>
-    ensures value { TakesNonce nonce.now (λ t. sound f.old → (words.new ≡ sealed_message (keyed (table f.old)) (image a.now) nonce.now words.old) × (t ≡ message_tag (keyed (table f.old)) (image a.now) nonce.now words.old)) ((words.new ≡ words.old) × (f.new ≡ f.old)) result }
-    ensures kept { Kept (table f.old) (sound f.old) (table f.new) (sound f.new) }
+    ensures value { TakesNonce nonce.now (λ t. K.sound f.old → (words.new ≡ sealed_message (keyed (K.table f.old)) (C.image a.now) nonce.now words.old) × (t ≡ message_tag (keyed (K.table f.old)) (C.image a.now) nonce.now words.old)) ((words.new ≡ words.old) × (f.new ≡ f.old)) result }
+    ensures kept { Kept (K.table f.old) (K.sound f.old) (K.table f.new) (K.sound f.new) }
 {
     let mut sealing = Registers::new();
     sealing.begin(f, a, nonce)?;
@@ -77,9 +77,9 @@ pub fn open_message<K: KeyedFunction, C: Coefficient>(
     nonce: &[u8],
     words: &mut [MaskedWord],
 ) -> Result<[u16; 8], Fault>
-    ensures value { TakesNonce nonce.now (λ t. sound f.old → (words.new ≡ opened_message (keyed (table f.old)) (image a.now) nonce.now words.old) × (t ≡ message_tag (keyed (table f.old)) (image a.now) nonce.now (opened_message (keyed (table f.old)) (image a.now) nonce.now words.old))) ((words.new ≡ words.old) × (f.new ≡ f.old)) result }
-    ensures back { IfOk result (λ t. sound f.old → MessageBack (keyed (table f.old)) (image a.now) nonce.now words.old words.new t) }
-    ensures kept { Kept (table f.old) (sound f.old) (table f.new) (sound f.new) }
+    ensures value { TakesNonce nonce.now (λ t. K.sound f.old → (words.new ≡ opened_message (keyed (K.table f.old)) (C.image a.now) nonce.now words.old) × (t ≡ message_tag (keyed (K.table f.old)) (C.image a.now) nonce.now (opened_message (keyed (K.table f.old)) (C.image a.now) nonce.now words.old))) ((words.new ≡ words.old) × (f.new ≡ f.old)) result }
+    ensures back { IfOk result (λ t. K.sound f.old → MessageBack (keyed (K.table f.old)) (C.image a.now) nonce.now words.old words.new t) }
+    ensures kept { Kept (K.table f.old) (K.sound f.old) (K.table f.new) (K.sound f.new) }
 {
     let mut opening = Registers::new();
     opening.begin(f, a, nonce)?;

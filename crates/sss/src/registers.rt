@@ -61,8 +61,8 @@ impl Registers {
         a: &C,
         nonce: &[u8],
     ) -> Result<(), Fault>
-        ensures value { TakesNonce nonce.now (λ _. sound f.old → state self.new ≡ begun (keyed (table f.old)) (image a.now) nonce.now) ((self.new ≡ self.old) × (f.new ≡ f.old)) result }
-        ensures kept { Kept (table f.old) (sound f.old) (table f.new) (sound f.new) }
+        ensures value { TakesNonce nonce.now (λ _. K.sound f.old → state self.new ≡ begun (keyed (K.table f.old)) (C.image a.now) nonce.now) ((self.new ≡ self.old) × (f.new ≡ f.old)) result }
+        ensures kept { Kept (K.table f.old) (K.sound f.old) (K.table f.new) (K.sound f.new) }
     {
         if nonce.len() % 2 != 0 || nonce.len() > 32 {
             return Err(Fault::Nonce);
@@ -81,10 +81,10 @@ impl Registers {
         mask: u16,
         plain: u16,
     ) -> u16
-        ensures value { sound f.old → result ≡ wire_word (keyed (table f.old)) (state self.old) mask plain }
-        ensures registers { sound f.old → state self.new ≡ taken (keyed (table f.old)) (image a.now) (state self.old) mask plain }
-        ensures mactext { sound f.old → MactextFromWire (keyed (table f.old)) (state self.old) mask plain result }
-        ensures kept { Kept (table f.old) (sound f.old) (table f.new) (sound f.new) }
+        ensures value { K.sound f.old → result ≡ wire_word (keyed (K.table f.old)) (state self.old) mask plain }
+        ensures registers { K.sound f.old → state self.new ≡ taken (keyed (K.table f.old)) (C.image a.now) (state self.old) mask plain }
+        ensures mactext { K.sound f.old → MactextFromWire (keyed (K.table f.old)) (state self.old) mask plain result }
+        ensures kept { Kept (K.table f.old) (K.sound f.old) (K.table f.new) (K.sound f.new) }
     {
         let v = self.cipher.keystream(f);
         self.absorb(f, a, v, mask, plain);
@@ -99,10 +99,10 @@ impl Registers {
         mask: u16,
         wire: u16,
     ) -> u16
-        ensures value { sound f.old → result ≡ plain_word (keyed (table f.old)) (state self.old) mask wire }
-        ensures registers { sound f.old → state self.new ≡ taken (keyed (table f.old)) (image a.now) (state self.old) mask (plain_word (keyed (table f.old)) (state self.old) mask wire) }
-        ensures back { sound f.old → WordBack (keyed (table f.old)) (image a.now) (state self.old) mask wire result (state self.new) }
-        ensures kept { Kept (table f.old) (sound f.old) (table f.new) (sound f.new) }
+        ensures value { K.sound f.old → result ≡ plain_word (keyed (K.table f.old)) (state self.old) mask wire }
+        ensures registers { K.sound f.old → state self.new ≡ taken (keyed (K.table f.old)) (C.image a.now) (state self.old) mask (plain_word (keyed (K.table f.old)) (state self.old) mask wire) }
+        ensures back { K.sound f.old → WordBack (keyed (K.table f.old)) (C.image a.now) (state self.old) mask wire result (state self.new) }
+        ensures kept { Kept (K.table f.old) (K.sound f.old) (K.table f.new) (K.sound f.new) }
     {
         let v = self.cipher.keystream(f);
         let plain = wire ^ (mask & v);
@@ -112,10 +112,10 @@ impl Registers {
 
     /// Closes the message and draws its tag: 0 is fed in, then c[16] down to c[0], then eight zeros, which are sealed to the tag.
     pub fn close<K: KeyedFunction>(&mut self, f: &mut K) -> [u16; 8]
-        ensures value { sound f.old → result ≡ tag (keyed (table f.old)) (state self.old) }
-        ensures registers { sound f.old → state self.new ≡ closed (keyed (table f.old)) (state self.old) }
+        ensures value { K.sound f.old → result ≡ tag (keyed (K.table f.old)) (state self.old) }
+        ensures registers { K.sound f.old → state self.new ≡ closed (keyed (K.table f.old)) (state self.old) }
         ensures check { (state self.new).c ≡ (state self.old).c }
-        ensures kept { Kept (table f.old) (sound f.old) (table f.new) (sound f.new) }
+        ensures kept { Kept (K.table f.old) (K.sound f.old) (K.table f.new) (K.sound f.new) }
     {
         let _ = self.cipher.feed(f, 0);
         self.feed_check(f);
@@ -131,9 +131,9 @@ impl Registers {
         mask: u16,
         plain: u16,
     )
-        ensures cipher { sound f.old → window self.new.cipher.cells ≡ step (keyed (table f.old)) (window self.old.cipher.cells) (bit_xor plain v) }
-        ensures check { window self.new.check.cells ≡ check_step (image a.now) (window self.old.check.cells) (mactext mask v plain) }
-        ensures kept { Kept (table f.old) (sound f.old) (table f.new) (sound f.new) }
+        ensures cipher { K.sound f.old → window self.new.cipher.cells ≡ step (keyed (K.table f.old)) (window self.old.cipher.cells) (bit_xor plain v) }
+        ensures check { window self.new.check.cells ≡ check_step (C.image a.now) (window self.old.check.cells) (mactext mask v plain) }
+        ensures kept { Kept (K.table f.old) (K.sound f.old) (K.table f.new) (K.sound f.new) }
     {
         self.cipher.step(f, plain ^ v);
         self.check.step(a, plain ^ (!mask & v));
@@ -141,8 +141,8 @@ impl Registers {
 
     /// Each nonce word in turn.
     fn take_nonce<K: KeyedFunction, C: Coefficient>(&mut self, f: &mut K, a: &C, nonce: &[u8])
-        ensures registers { sound f.old → state self.new ≡ nonces_taken (keyed (table f.old)) (image a.now) (state self.old) (words_of nonce.now) }
-        ensures kept { Kept (table f.old) (sound f.old) (table f.new) (sound f.new) }
+        ensures registers { K.sound f.old → state self.new ≡ nonces_taken (keyed (K.table f.old)) (C.image a.now) (state self.old) (words_of nonce.now) }
+        ensures kept { Kept (K.table f.old) (K.sound f.old) (K.table f.new) (K.sound f.new) }
     {
         for i in 0..nonce.len() / 2 {
             let word = u16::from_le_bytes([nonce[2 * i], nonce[2 * i + 1]]);
@@ -152,8 +152,8 @@ impl Registers {
 
     /// One nonce word, as a sealed word that was received.
     fn take_nonce_word<K: KeyedFunction, C: Coefficient>(&mut self, f: &mut K, a: &C, word: u16)
-        ensures registers { sound f.old → state self.new ≡ nonce_taken (keyed (table f.old)) (image a.now) (state self.old) word }
-        ensures kept { Kept (table f.old) (sound f.old) (table f.new) (sound f.new) }
+        ensures registers { K.sound f.old → state self.new ≡ nonce_taken (keyed (K.table f.old)) (C.image a.now) (state self.old) word }
+        ensures kept { Kept (K.table f.old) (K.sound f.old) (K.table f.new) (K.sound f.new) }
     {
         let v = self.cipher.keystream(f);
         self.check.step(a, word ^ v);
@@ -162,8 +162,8 @@ impl Registers {
 
     /// Seventeen open words with plaintext 0.
     fn take_open_zeros<K: KeyedFunction, C: Coefficient>(&mut self, f: &mut K, a: &C)
-        ensures registers { sound f.old → state self.new ≡ open_zeros (keyed (table f.old)) (image a.now) 17 (state self.old) }
-        ensures kept { Kept (table f.old) (sound f.old) (table f.new) (sound f.new) }
+        ensures registers { K.sound f.old → state self.new ≡ open_zeros (keyed (K.table f.old)) (C.image a.now) 17 (state self.old) }
+        ensures kept { Kept (K.table f.old) (K.sound f.old) (K.table f.new) (K.sound f.new) }
     {
         for _ in 0..17u8 {
             let _ = self.seal_word(f, a, 0, 0);
@@ -172,9 +172,9 @@ impl Registers {
 
     /// Feeds the check words into the cipher register, c[16] down to c[0].
     fn feed_check<K: KeyedFunction>(&mut self, f: &mut K)
-        ensures cipher { sound f.old → window self.new.cipher.cells ≡ all_fed (keyed (table f.old)) (window self.old.cipher.cells) (reverse (window self.old.check.cells)) }
+        ensures cipher { K.sound f.old → window self.new.cipher.cells ≡ all_fed (keyed (K.table f.old)) (window self.old.cipher.cells) (reverse (window self.old.check.cells)) }
         ensures check { window self.new.check.cells ≡ window self.old.check.cells }
-        ensures kept { Kept (table f.old) (sound f.old) (table f.new) (sound f.new) }
+        ensures kept { Kept (K.table f.old) (K.sound f.old) (K.table f.new) (K.sound f.new) }
     {
         for i in (0..17).rev() {
             let _ = self.cipher.feed(f, self.check.at(i));

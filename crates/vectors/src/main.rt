@@ -1,4 +1,6 @@
 //! Seals and opens the messages of another program, read from standard input, and reports where the two differ.
+#![tactic(auto)]
+
 ghost use Rattle.std.specs.Prelude.{◌≡◌};
 ghost use Rattle.vectors.specs.Counts.{Counted, Taken};
 ghost use Rattle.vectors.specs.Tallies.{after_malformed};

@@ -1,4 +1,6 @@
 //! Seals messages with one end of the link and takes them with the other, across a joint of a pipe that loses words at its welds.
+#![tactic(auto)]
+
 ghost use Rattle.std.specs.Prelude.{IfOk};
 ghost use Rattle.weld.specs.Observed.{CountsItsRun};
 

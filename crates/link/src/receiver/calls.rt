@@ -43,10 +43,10 @@ impl<K: KeyedFunction, C: Coefficient> Receiver<K, C> {
 
     /// Takes a word under its mask into both registers, whatever the state, and hands out its reading or withholds it.
     pub fn word(&mut self, mask: u16, wire: u16) -> Answer
-        ensures value { K.KeyedFunction.sound self.old.function → result ≡ answer_of (decided self.old.reception (Event.Word mask)).1 (reading K.KeyedFunction self.old mask wire) }
+        ensures value { K.sound self.old.function → result ≡ answer_of (decided self.old.reception (Event.Word mask)).1 (reading K.KeyedFunction self.old mask wire) }
         ensures released { Released (decided self.old.reception (Event.Word mask)).1 result }
         ensures reception { self.new.reception ≡ (decided self.old.reception (Event.Word mask)).0 }
-        ensures registers { K.KeyedFunction.sound self.old.function → state self.new.registers ≡ stepped K.KeyedFunction C.Coefficient self.old mask wire }
+        ensures registers { K.sound self.old.function → state self.new.registers ≡ stepped K.KeyedFunction C.Coefficient self.old mask wire }
         ensures coefficient { self.new.coefficient ≡ self.old.coefficient }
         ensures kept { Keeps K.KeyedFunction self.old.function self.new.function }
     {
@@ -74,7 +74,7 @@ impl<K: KeyedFunction, C: Coefficient> Receiver<K, C> {
 
     /// Ends a message with the tag that was received, and answers the verdict. The receiver is then lost with row 0, its registers zero.
     pub fn finish(&mut self, received: [u16; 8]) -> Verdict
-        ensures value { K.KeyedFunction.sound self.old.function → result ≡ verdict_of (decided self.old.reception Event.Finish).1 received (drawn K.KeyedFunction self.old) }
+        ensures value { K.sound self.old.function → result ≡ verdict_of (decided self.old.reception Event.Finish).1 received (drawn K.KeyedFunction self.old) }
         ensures given { Given (decided self.old.reception Event.Finish).1 result }
         ensures reception { self.new.reception ≡ (decided self.old.reception Event.Finish).0 }
         ensures registers { state self.new.registers ≡ zeroed }
