@@ -2,7 +2,7 @@
 use Rattle.std.proofs.Common.{◌≡◌, ℕ, List, [], map, get_or, refl, ap}
 use Rattle.sss.specs.Tables.{skipjack, qbox, products}
 use Rattle.sss.specs.Cipher.{plus, rotate, complement, keyed, key_byte, key_word, key_entry, key_table, product, step, keystream, check_step, masked, mactext}
-use Rattle.functions.specs.Figures.{Figure, FiguresHold, figures}
+use Rattle.functions.specs.Figures.{FiguresHold, figures}
 
 pub figures_hold : FiguresHold
 unfolding skipjack qbox products plus rotate complement keyed key_byte key_word key_entry key_table product step keystream check_step masked mactext

@@ -1,10 +1,9 @@
 -- The law of a keyed function: how a table is tested for it.
-use Rattle.std.proofs.Common.{◌≡◌, ℕ, zero, suc, ◌+◌, ◌-◌, ◌*◌, ◌/◌, ◌%◌, ◌<◌, ◌≤◌, Bool, true, false, ◌≢◌, List, [], ◌∷◌, length, get_or, set, replicate, sym, refl, ap, ◌∙◌, subst, inl, inr, arith}
-use lib.Bits.{bit_xor, xor_lt, xor_comm, xor_shr}
+use Rattle.std.proofs.Common.{◌≡◌, ℕ, zero, suc, ◌+◌, ◌/◌, ◌<◌, Bool, true, false, ◌≢◌, List, length, get_or, set, replicate, sym, refl, ap, ◌∙◌, inl, inr, arith}
+use lib.Bits.{bit_xor}
 use Rattle.std.proofs.lemmas.List.{get_or-set_same, get_or-set_other, length-set}
 use Rattle.std.proofs.lemmas.Bool.{cases_eq, cases_lt, true≢false}
-use Rattle.sss.specs.Cipher.{Word, Words, Lawful, OneToOne, keyed}
-use Rattle.sss.proofs.Words.{xor_cancel_left, xor_word}
+use Rattle.sss.specs.Cipher.{Lawful}
 
 -- The byte that the law asks to differ from entry to entry.
 abbrev pub byte_at : List ℕ → ℕ → ℕ

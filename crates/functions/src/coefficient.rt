@@ -14,7 +14,7 @@ pub struct PrintedTable;
 impl Coefficient for PrintedTable {
     ghost image = { λ _. product };
 
-    ghost lawful = { λ a. product_one_to_one };
+    ghost lawful = { λ _. product_one_to_one };
 
     fn multiply(&self, a: u16) -> u16 {
         shifted(a) ^ printed_product(high_byte(a))
@@ -29,7 +29,7 @@ pub struct FieldRule;
 impl Coefficient for FieldRule {
     ghost image = { λ _. product };
 
-    ghost lawful = { λ a. product_one_to_one };
+    ghost lawful = { λ _. product_one_to_one };
 
     fn multiply(&self, a: u16) -> u16 {
         let mut power = u16::from(high_byte(a));

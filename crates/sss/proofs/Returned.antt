@@ -1,5 +1,5 @@
 -- What was sealed comes back.
-use Rattle.std.proofs.Common.{◌≡◌, ℕ, List, [], ◌∷◌, sym, refl, ap, ◌∙◌}
+use Rattle.std.proofs.Common.{◌≡◌, ℕ, List, [], ◌∷◌, refl, ap, ◌∙◌}
 use lib.Bits.{bit_and}
 use Rattle.sss.specs.Cipher.{State, keystream, masked, taken, wire_word, plain_word, wire_words, plain_words, sealed_message, opened_message, message_tag}
 use Rattle.sss.specs.Laws.{WordBack, MessageBack}

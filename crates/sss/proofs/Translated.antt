@@ -1,5 +1,5 @@
 -- Words that are translated in place, one after the other, while a state goes along: sealing and opening alike.
-use Rattle.std.proofs.Common.{◌≡◌, ℕ, zero, suc, ◌+◌, ◌<◌, ◌≤◌, List, [], ◌∷◌, ◌++◌, length, get_or, take, drop, set, sym, refl, ap, ◌∙◌, arith}
+use Rattle.std.proofs.Common.{◌≡◌, ℕ, ◌+◌, ◌<◌, ◌≤◌, List, [], ◌∷◌, ◌++◌, length, get_or, take, drop, set, sym, refl, ap, ◌∙◌, arith}
 use Rattle.std.proofs.lemmas.List.{append_assoc, append-nil, take_more_set, take_all, drop_more, drop_all, drop-set-lt, length-set}
 use Rattle.sss.specs.Cipher.{State, taken, wire_word, plain_word, wire_words, plain_words, all_taken}
 use Rattle.sss.specs.declared.message.MaskedWord.{MaskedWord}

@@ -1,8 +1,8 @@
 -- Words: rotation, sums and exclusive or.
-use Rattle.std.proofs.Common.{◌≡◌, ℕ, zero, suc, ◌+◌, ◌-◌, ◌*◌, ◌/◌, ◌%◌, ◌^◌, ◌<◌, ◌≤◌, sym, refl, ap, ◌∙◌, subst, arith}
+use Rattle.std.proofs.Common.{◌≡◌, ℕ, zero, suc, ◌+◌, ◌-◌, ◌*◌, ◌/◌, ◌%◌, ◌^◌, ◌<◌, sym, ap, ◌∙◌, subst, arith}
 use native.Mathlib.Nat.{mul-mod_left}
 use lib.Bits.{bit_and, bit_or, bit_xor, or_shifted, or_self, or_comm, xor_comm, xor_assoc, xor_self, xor_zero_l, xor_zero_r, xor_lt, xor_shr, xor_mod, and_shr, and_mod}
-use Rattle.std.proofs.lemmas.Nat.{mod-pow-add, shl-shr, shr_below, pow_pos}
+use Rattle.std.proofs.lemmas.Nat.{mod-pow-add, shl-shr, shr_below}
 use Rattle.sss.specs.Cipher.{Word, rotate, complement, masked, mactext}
 
 -- A shift to the left that drops what passes bit 16.

@@ -1,15 +1,14 @@
 -- Nothing differs exactly where the message is as the published cipher has it.
-use Rattle.std.proofs.Common.{◌≡◌, ℕ, Bool, true, false, cond, ◌↔◌, List, [], ◌∷◌, ◌++◌, vec_items, sym, refl, ap, ◌∙◌, arith}
+use Rattle.std.proofs.Common.{◌≡◌, ℕ, Bool, true, false, cond, List, [], ◌∷◌, ◌++◌, vec_items, sym, refl, ap, ◌∙◌, arith}
 use Rattle.std.proofs.lemmas.Bool.{cond-true}
-use Rattle.sss.specs.Cipher.{key_table, product}
+use Rattle.sss.specs.Cipher.{key_table}
 use Rattle.vectors.specs.declared.vector.Vector.{Vector}
-use Rattle.vectors.specs.declared.compare.Agreement.{Agreement}
 use Rattle.vectors.specs.declared.compare.Comparison.{Comparison}
 use Rattle.vectors.specs.declared.compare.Comparison.TheVariants.{Wire, SealedTag, Plaintext, OpenedTag}
 use Rattle.vectors.specs.declared.compare.Difference.{Difference}
 use Rattle.vectors.specs.declared.compare.Function.{Function}
 use Rattle.vectors.specs.declared.compare.Way.{Way}
-use Rattle.vectors.specs.Ways.{Judged, Published, NoneExactly, One, Both, Keyed, Then, FromKeyWays, TableWays, AllWays, failed, all_failed, held}
+use Rattle.vectors.specs.Ways.{Published, NoneExactly, One, Keyed, Then, FromKeyWays, TableWays, AllWays, failed, held}
 
 left_none : (p q : List Difference) → p ++ q ≡ [] → p ≡ []
 left_none [] q e = refl

@@ -1,5 +1,5 @@
 -- What a field's answer says once its fault is the line's.
-use Rattle.std.proofs.Common.{◌≡◌, ℕ, Ok, Err, Result, refl, subst, arith, MatchResult}
+use Rattle.std.proofs.Common.{◌≡◌, ℕ, Ok, Err, Result, subst, arith, MatchResult}
 use Rattle.vectors.specs.declared.flaw.Flaw.{Flaw}
 use Rattle.vectors.specs.declared.vector.Field.{Field}
 use Rattle.vectors.specs.declared.vector.Malformed.{Malformed}

@@ -1,5 +1,5 @@
 -- What hex digits stand for: bytes, and words with the low byte first.
-use Rattle.std.specs.Prelude.{◌≡◌, ℕ, ◌+◌, ◌-◌, ◌*◌, ◌/◌, ◌%◌, ◌<◌, Bool, cond, ◌&&◌, List, length, Some, None, Option, nat_le, slice_index}
+use Rattle.std.specs.Prelude.{◌≡◌, ℕ, ◌+◌, ◌-◌, ◌*◌, ◌%◌, ◌<◌, cond, ◌&&◌, List, length, Some, None, Option, nat_le, slice_index}
 use Rattle.vectors.specs.declared.flaw.Flaw.{Flaw}
 use Rattle.vectors.specs.declared.flaw.Flaw.TheVariants.{NoDigits, OddDigits, NotADigit, OddBytes, NotATag, NoMemory}
 

@@ -1,5 +1,5 @@
 -- A line of the input as a message.
-use Rattle.std.specs.Prelude.{◌≡◌, ℕ, ◌⊎◌, List, [], map, length, Ok, Err, vec_items, IsUtf8, Result, ◌≢◌, slice_index_or}
+use Rattle.std.specs.Prelude.{◌≡◌, ℕ, List, [], map, length, Ok, Err, vec_items, IsUtf8, Result, ◌≢◌, slice_index_or}
 use Rattle.vectors.specs.declared.flaw.Flaw.{Flaw}
 use Rattle.vectors.specs.declared.vector.Field.{Field}
 use Rattle.vectors.specs.declared.vector.Field.TheVariants.{Key, Nonce, Masks, Plaintext, Wire, Tag}

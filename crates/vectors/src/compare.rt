@@ -244,8 +244,8 @@ fn seal<K: KeyedFunction, C: Coefficient>(
     a: &C,
     vector: &Vector,
 ) -> Result<Outcome, Stopped>
-    ensures value { IfOk result (λ o. sound f.old → (o.words.items ≡ sealed_of (table f.old) (image a.now) vector.now) × (o.tag ≡ tag_of (table f.old) (image a.now) vector.now)) }
-    ensures kept { Kept (table f.old) (sound f.old) (table f.new) (sound f.new) }
+    ensures value { IfOk result (λ o. K.sound f.old → (o.words.items ≡ sealed_of (K.table f.old) (C.image a.now) vector.now) × (o.tag ≡ tag_of (K.table f.old) (C.image a.now) vector.now)) }
+    ensures kept { Kept (K.table f.old) (K.sound f.old) (K.table f.new) (K.sound f.new) }
 {
     let mut words = Vec::from_slice(heap, vector.plaintext.as_slice())?;
     let tag = sss::seal_message(f, a, vector.nonce.as_slice(), words.as_mut_slice())?;
@@ -259,8 +259,8 @@ fn open<K: KeyedFunction, C: Coefficient>(
     a: &C,
     vector: &Vector,
 ) -> Result<Outcome, Stopped>
-    ensures value { IfOk result (λ o. sound f.old → (o.words.items ≡ opened_of (table f.old) (image a.now) vector.now) × (o.tag ≡ opened_tag_of (table f.old) (image a.now) vector.now)) }
-    ensures kept { Kept (table f.old) (sound f.old) (table f.new) (sound f.new) }
+    ensures value { IfOk result (λ o. K.sound f.old → (o.words.items ≡ opened_of (K.table f.old) (C.image a.now) vector.now) × (o.tag ≡ opened_tag_of (K.table f.old) (C.image a.now) vector.now)) }
+    ensures kept { Kept (K.table f.old) (K.sound f.old) (K.table f.new) (K.sound f.new) }
 {
     let mut words = Vec::from_slice(heap, vector.wire.as_slice())?;
     let tag = sss::open_message(f, a, vector.nonce.as_slice(), words.as_mut_slice())?;
@@ -274,8 +274,8 @@ fn one_way<K: KeyedFunction, C: Coefficient>(
     a: &C,
     vector: &Vector,
 ) -> Result<Agreement, Stopped>
-    ensures value { IfOk result (λ j. sound f.old → Judged (table f.old) (image a.now) vector.now j) }
-    ensures kept { Kept (table f.old) (sound f.old) (table f.new) (sound f.new) }
+    ensures value { IfOk result (λ j. K.sound f.old → Judged (K.table f.old) (C.image a.now) vector.now j) }
+    ensures kept { Kept (K.table f.old) (K.sound f.old) (K.table f.new) (K.sound f.new) }
 {
     let sealed = seal(heap, f, a, vector)?;
     let opened = open(heap, f, a, vector)?;
@@ -290,8 +290,8 @@ fn two_ways<K: KeyedFunction>(
     vector: &Vector,
     found: &mut Vec<Difference>,
 ) -> Result<(), Stopped>
-    ensures after { OnOk result (sound f.old → Adds (Both (table f.old) vector.now function) found.old.items found.new.items) }
-    ensures kept { Kept (table f.old) (sound f.old) (table f.new) (sound f.new) }
+    ensures after { OnOk result (K.sound f.old → Adds (Both (K.table f.old) vector.now function) found.old.items found.new.items) }
+    ensures kept { Kept (K.table f.old) (K.sound f.old) (K.table f.new) (K.sound f.new) }
 {
     let printed = one_way(heap, f, &PrintedTable, vector)?;
     printed.note_all(

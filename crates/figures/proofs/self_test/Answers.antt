@@ -3,4 +3,4 @@ use Rattle.figures.proofs.KnownFigures.{figures_hold}
 use Rattle.figures.proofs.self_test.Goals as goal
 
 pub returns : goal.returns
-returns c = record { value = and_from _ _ c.cipher-figures.ensures c.link-figures.ensures; figures = figures_hold }
+returns c = record { value = and_from _ _ c.cipher_figures.ensures c.link_figures.ensures; figures = figures_hold }

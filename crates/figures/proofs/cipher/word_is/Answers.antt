@@ -20,18 +20,18 @@ pub returns : goal.returns
 unfolding wire_word zeroed
 returns c =
     let mask = c.args.mask in
-    let key = c.zero-key.ensures in
-    let said = c.seal-word-sealed.ensures in
+    let key = c.zero_key.ensures in
+    let said = c.seal_word-sealed.ensures in
     let new = state c.new-registers.result in
     let A = product in
     let f : ℕ → ℕ = keyed (key_table (0 ∷ [])) in
-    let wire : c.seal-word-sealed.result ≡ masked mask zero_keystream 0x1234 =
+    let wire : c.seal_word-sealed.result ≡ masked mask zero_keystream 0x1234 =
     said.value key.sound ∙ ap (λ (S : List ℕ). wire_word (keyed S) new mask 0x1234) key.meaning ∙
     ap (λ (g : State). wire_word f g mask 0x1234) c.new-registers.ensures in
-    let after : state c.seal-word-sealed.new.self ≡ taken f A zeroed mask 0x1234 =
+    let after : state c.seal_word-sealed.new.self ≡ taken f A zeroed mask 0x1234 =
     said.registers key.sound ∙ ap (λ (S : List ℕ). taken (keyed S) A new mask 0x1234) key.meaning ∙
     ap (λ (g : State). taken f A g mask 0x1234) c.new-registers.ensures in
-    let mac : get_or c.check-words.result 16 0 ≡ mactext mask zero_keystream 0x1234 =
-    ap (λ (xs : List ℕ). get_or xs 16 0) (c.check-words.ensures ∙ ap (λ (g : State). g.c) after) ∙ first_mactext f mask 0x1234 in
-    ap (λ (x : ℕ). eqb x c.args.wire && eqb (get_or c.check-words.result 16 0) c.args.mac) wire ∙
+    let mac : get_or c.check_words.result 16 0 ≡ mactext mask zero_keystream 0x1234 =
+    ap (λ (xs : List ℕ). get_or xs 16 0) (c.check_words.ensures ∙ ap (λ (g : State). g.c) after) ∙ first_mactext f mask 0x1234 in
+    ap (λ (x : ℕ). eqb x c.args.wire && eqb (get_or c.check_words.result 16 0) c.args.mac) wire ∙
     ap (λ (x : ℕ). eqb (masked mask zero_keystream 0x1234) c.args.wire && eqb x c.args.mac) mac

@@ -6,7 +6,7 @@ use Rattle.figures.proofs.receiving.open_after_ten.Goals as goal
 
 pub returns : goal.returns
 returns c =
-    let receiver = c.after-sealed.ensures in
+    let receiver = c.after_sealed.ensures in
     let answer : c.word.result ≡ Withheld 0 =
     answered 10 0x0000 _ _ (c.word.ensures.value receiver.sound) receiver.reception (release 14 0) in
     let equal = simp answer at c.eq.ensures in

@@ -4,11 +4,11 @@ use Rattle.link.specs.declared.reception.Answer.TheVariants.{Withheld}
 use Rattle.figures.proofs.Answering.{answered, one_more}
 use Rattle.figures.proofs.KnownFigures.{release}
 use Rattle.figures.proofs.receiving.seventeen_sealed.Goals as goal
-use Rattle.figures.proofs.receiving.seventeen_sealed.Goals.{in-Reading, in-default}
+use Rattle.figures.proofs.receiving.seventeen_sealed.Goals.{in-Reading, in_default}
 
 pub returns : goal.returns
 returns c =
-    let receiver = c.after-sealed-receiver.ensures in
+    let receiver = c.after_sealed-receiver.ensures in
     let first = c.word-sixteenth.ensures in
     let second = c.word-seventeenth.ensures in
     let third = c.word-eighteenth.ensures in
@@ -22,5 +22,5 @@ returns c =
     let row-16 = simp sixteenth at c.eq.ensures in
     let row-17 = simp seventeenth at c.eq-2.ensures in
     let reading : c.match-matches.matches ≡ true =
-    elim c.match-matches.branch [ in-Reading w ↦ w.matches-is | in-default w ↦ absurd (w.in-default.not-Reading _ eighteenth) ] in
+    elim c.match-matches.branch [ in-Reading w ↦ w.matches-is | in_default w ↦ absurd (w.in_default.not-Reading _ eighteenth) ] in
     and_from _ _ (and_from _ _ (row-16.1 refl) (row-17.1 refl)) reading

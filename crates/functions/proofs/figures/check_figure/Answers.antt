@@ -6,5 +6,5 @@ use Rattle.functions.proofs.figures.check_figure.Goals as goal
 
 pub returns : goal.returns
 returns c =
-    let stepped = c.words.ensures ∙ c.step.ensures ∙ ap (λ (r : List ℕ). check_step product r 1) c.from-words-register.ensures in
+    let stepped = c.words.ensures ∙ c.step.ensures ∙ ap (λ (r : List ℕ). check_step product r 1) c.from_words-register.ensures in
     eq-eqb _ _ (ap (λ (r : List ℕ). get_or r 16 0) stepped ∙ figure 12 0)

@@ -8,7 +8,7 @@ use Rattle.std.proofs.lemmas.Bool.Decides.{Decides-eqb}
 
 pub returns : goal.returns
 returns c =
-    let key = c.zero-key-f.ensures in
+    let key = c.zero_key-f.ensures in
     let asked = c.keystream-v.ensures in
     let v = asked.value key.sound in
     let stepped = c.step.ensures.register (asked.kept.sound key.sound) in

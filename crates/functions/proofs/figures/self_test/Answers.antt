@@ -7,7 +7,7 @@ returns c =
     record {
       value =
           and_from _ _
-          (and_from _ _ (and_from _ _ (and_from _ _ c.keyed-figures.ensures c.product-figures.ensures) c.register-figures.ensures) c.check-figure.ensures)
-          c.word-figures.ensures;
+          (and_from _ _ (and_from _ _ (and_from _ _ c.keyed_figures.ensures c.product_figures.ensures) c.register_figures.ensures) c.check_figure.ensures)
+          c.word_figures.ensures;
       figures = figures_hold;
     }

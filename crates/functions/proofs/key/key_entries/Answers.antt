@@ -1,4 +1,4 @@
-use Rattle.std.proofs.Common.{◌≡◌, ℕ, ◌<◌, length, get_or, set, sym, refl, ap, ◌∙◌, arith}
+use Rattle.std.proofs.Common.{ℕ, ◌<◌, length, get_or, set, refl, ap, ◌∙◌, arith}
 use Rattle.std.proofs.lemmas.List.FromFn.{fill_by_all}
 use Rattle.std.proofs.lemmas.List.Edits.{fill_by_more}
 use Rattle.std.proofs.lemmas.List.{length-set}
@@ -14,8 +14,8 @@ loop-i-preserved c =
     let i = c.loop-i.i in
     let entries = c.loop-i.entries in
     let room : i < length entries = omega (arith, c.loop-i.invariant.0) in (
-      length-set entries i c.key-entry.result ∙ c.loop-i.invariant.0,
-      λ k h. ap (λ (x : ℕ). get_or (set entries i x) k 0) c.key-entry.ensures ∙ fill_by_more (key_entry key) entries i 0 room c.loop-i.invariant.1 k h,
+      length-set entries i c.key_entry.result ∙ c.loop-i.invariant.0,
+      λ k h. ap (λ (x : ℕ). get_or (set entries i x) k 0) c.key_entry.ensures ∙ fill_by_more (key_entry key) entries i 0 room c.loop-i.invariant.1 k h,
     )
 
 pub returns : goal.returns

@@ -1,5 +1,5 @@
-use Rattle.std.proofs.Common.{◌≡◌, ℕ, ◌+◌, ◌*◌, ◌%◌, drop, sym, ap, ◌∙◌, arith}
-use lib.Bits.{bit_xor, bit_and, xor_assoc, xor_zero_r, and_mask}
+use Rattle.std.proofs.Common.{◌≡◌, ◌+◌, ◌*◌, ◌%◌, drop, arith}
+use lib.Bits.{bit_xor, xor_assoc, xor_zero_r, and_mask}
 use Rattle.sss.specs.Cipher.{key_byte, key_word, key_entry}
 use Rattle.functions.proofs.Keys.{key_byte_more, key_word_more, key_byte_all, key_word_all}
 use Rattle.sss.proofs.Words.{rotate_is}
@@ -11,8 +11,8 @@ loop-i-preserved c =
     let i = c.loop-i.i in
     let byte = key_byte_more key i c.loop-i.byte c.loop-i-test.true in
     let word = key_word_more key i c.loop-i.byte c.loop-i-test.true in
-    let turned = rotate_is i c.qbox.result (omega arith) c.qbox.type-inv in
-    let joined = xor_assoc c.loop-i.word c.rotate-left-word.result (key_word (i + 1) (drop (i + 1) key) c.skipjack-byte.result) in
+    let turned = rotate_is i c.qbox.result (omega arith) c.qbox.type_inv in
+    let joined = xor_assoc c.loop-i.word c.rotate_left-word.result (key_word (i + 1) (drop (i + 1) key) c.skipjack-byte.result) in
     (cc, cc)
 
 pub returns : goal.returns
@@ -23,7 +23,7 @@ returns c =
     let word = key_word_all key c.loop-i.i c.loop-i.byte c.loop-i-test.false in
     let whole = xor_zero_r c.loop-i.word in
     let low = and_mask c.loop-i.word 8 in
-    let sum : c.from-le-bytes.result ≡ bit_xor c.loop-i.byte c.args.x * 256 + c.loop-i.word % 256 = omega arith in
+    let sum : c.from_le_bytes.result ≡ bit_xor c.loop-i.byte c.args.x * 256 + c.loop-i.word % 256 = omega arith in
     let byte-is : c.loop-i.byte ≡ key_byte key c.args.x = cc in
     let word-is : c.loop-i.word ≡ key_word 0 key c.args.x = cc in
     cc

@@ -5,4 +5,4 @@ use Rattle.sss.specs.Cipher.{keyed}
 
 pub returns : goal.returns
 unfolding keyed
-returns c = ap (λ (i : ℕ). bit_xor (get_or c.args.table.now i 0) c.args.a) (c.from.ensures ∙ c.high-byte.ensures)
+returns c = ap (λ (i : ℕ). bit_xor (get_or c.args.table.now i 0) c.args.a) (c.from.ensures ∙ c.high_byte.ensures)

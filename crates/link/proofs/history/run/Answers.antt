@@ -32,13 +32,13 @@ loop-call-preserved g c =
     let A = g.SC.Coefficient.image c.new.result.coefficient in
     let A' = g.RC.Coefficient.image c.new-2.result.coefficient in
     let inv = c.loop-call.invariant in
-    let said = c.in-ok-history.ensures in
+    let said = c.in_ok-history.ensures in
     let first = c.in-Some.ensures.steps.0 in
-    let next = c.in-ok-history.history in
+    let next = c.in_ok-history.history in
     let x : Call = c.in-Some.call in
     let left : List Call = into_iter_items c.loop-call.call-iterator in
     let rest : List Call = into_iter_items c.next.new.self in
-    let all : List Call = into_iter_items c.into-iter-call-iterator.result in
+    let all : List Call = into_iter_items c.into_iter-call-iterator.result in
     let start : Ends × List Entry =
     (record { sealer = ready (state c.new.result.registers); receiver = receiving c.new-2.result }, vec_items c.clear.new.self) in (
       λ t u.
@@ -58,20 +58,20 @@ loop-call-preserved g c =
       enough_more c.clear.new.self c.loop-call.history.log next.log all left rest x inv.6 first said.room.length said.room.room,
     )
 
-pub returns-in-err-history : goal.returns-in-err-history
-returns-in-err-history g c =
-    let all : List Call = into_iter_items c.into-iter-call-iterator.result in
+pub returns-in_err-history : goal.returns-in_err-history
+returns-in_err-history g c =
+    let all : List Call = into_iter_items c.into_iter-call-iterator.result in
     let left : List Call = into_iter_items c.loop-call.call-iterator in
     let rest : List Call = into_iter_items c.next.new.self in
-    let count : length all ≡ vec_len c.args.calls = omega (arith, ap length c.into-iter-call-iterator.ensures.into-iter-gives.0, c.args.calls.ok) in
+    let count : length all ≡ vec_len c.args.calls = omega (arith, ap length c.into_iter-call-iterator.ensures.into_iter-gives.0, c.args.calls.ok) in
     record {
       value = search rules;
       law = search rules;
       meaning = search rules;
       room =
-          refused_by c.from-residual.result
+          refused_by c.from_residual.result
           (too_small c.clear.new.self c.loop-call.history.log c.args.log all left rest (vec_len c.args.calls) c.in-Some.call
-          c.loop-call.invariant.6 c.in-Some.ensures.steps.0 c.in-err-history.ensures.room c.clear.ensures.len
+          c.loop-call.invariant.6 c.in-Some.ensures.steps.0 c.in_err-history.ensures.room c.clear.ensures.len
           c.clear.ensures.capacity count);
     }
 
@@ -86,7 +86,7 @@ returns g c =
     let inv = c.loop-call.invariant in
     let rest : List Call = into_iter_items c.loop-call.call-iterator in
     let none : length rest ≡ 0 = omega (arith, c.in-None.ensures.steps.0, c.loop-call.call-iterator.rest.ok) in
-    let all : List Call = into_iter_items c.into-iter-call-iterator.result in
+    let all : List Call = into_iter_items c.into_iter-call-iterator.result in
     let calls = vec_items c.args.calls in
     let sealer = c.new.ensures in
     let receiver = c.new-2.ensures in
@@ -104,13 +104,13 @@ returns g c =
     (ap g.SC.Coefficient.image sealer.coefficient) (ap (λ x. keyed (R.table x)) receiver.function)
     (ap g.RC.Coefficient.image receiver.coefficient)
     (inv.0 (subst S.sound (sym sealer.function) s) (subst R.sound (sym receiver.function) r)) in
-    to_come_none f A f' A' start (after c.loop-call.history) all rest calls so none new c.into-iter-call-iterator.ensures.into-iter-gives.0 in
+    to_come_none f A f' A' start (after c.loop-call.history) all rest calls so none new c.into_iter-call-iterator.ensures.into_iter-gives.0 in
     record {
       value = value;
       law = λ s r table image.
           history_law f A f' A' (keyed_one_to_one (S.table c.args.sealer.0) (g.met.SK.KeyedFunction.lawful c.args.sealer.0 s))
           (g.met.SC.Coefficient.lawful c.args.sealer.1) (ap keyed table) image calls
-          (subst (All CallFits) c.into-iter-call-iterator.ensures.into-iter-gives.0 (inv.1 (fits_none rest none)))
+          (subst (All CallFits) c.into_iter-call-iterator.ensures.into_iter-gives.0 (inv.1 (fits_none rest none)))
           (after c.loop-call.history) (value s r);
       meaning =
           record {

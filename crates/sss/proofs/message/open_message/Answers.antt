@@ -12,9 +12,9 @@ returns g c =
     let A = g.C.Coefficient.image c.args.a.now in
     let nonce = c.args.nonce.now in
     let received = c.args.words.now in
-    let words = c.open-words.new.words in
-    let begun = c.in-ok-begin.ensures in
-    let opened = c.open-words.ensures in
+    let words = c.open_words.new.words in
+    let begun = c.in_ok-begin.ensures in
+    let opened = c.open_words.ensures in
     let twice = kept_twice begun.kept opened.kept in
     let outcome : m.sound c.args.f.now →
     (words ≡ opened_message f A nonce received) × (c.close.result ≡ message_tag f A nonce (opened_message f A nonce received)) = λ s.

@@ -1,13 +1,12 @@
-use Rattle.std.proofs.Common.{◌≡◌}
-use Rattle.sss.specs.Cipher.{keyed, sealed_message, message_tag}
+use Rattle.sss.specs.Cipher.{sealed_message, message_tag}
 use Rattle.sss.proofs.Asked.{kept_twice}
 use Rattle.sss.proofs.message.seal_message.Goals as goal
 
 pub returns : goal.returns
 unfolding sealed_message message_tag
 returns g c =
-    let begun = c.in-ok-begin.ensures in
-    let sealed = c.seal-words.ensures in
+    let begun = c.in_ok-begin.ensures in
+    let sealed = c.seal_words.ensures in
     let twice = kept_twice begun.kept sealed.kept in
     record {
       value = (

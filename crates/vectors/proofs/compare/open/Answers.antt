@@ -4,13 +4,13 @@ use Rattle.vectors.proofs.compare.open.Goals as goal
 
 pub returns : goal.returns
 returns g c =
-    let said = c.in-ok-tag.ensures in
-    let words = c.open-message.new.words in
-    let long : length words ≡ c.in-ok-words.words.len = omega (arith, c.open-message.auto.words, c.as-mut-slice.ensures.len) in
-    let whole = take_at words _ c.in-ok-words.words.len long in
-    let copied = c.in-ok-words.ensures.items ∙ c.as-slice.ensures.value in
-    let lent = c.as-mut-slice.ensures.value ∙ copied in
-    let nonce = c.as-slice-2.ensures.value in
+    let said = c.in_ok-tag.ensures in
+    let words = c.open_message.new.words in
+    let long : length words ≡ c.in_ok-words.words.len = omega (arith, c.open_message.auto.words, c.as_mut_slice.ensures.len) in
+    let whole = take_at words _ c.in_ok-words.words.len long in
+    let copied = c.in_ok-words.ensures.items ∙ c.as_slice.ensures.value in
+    let lent = c.as_mut_slice.ensures.value ∙ copied in
+    let nonce = c.as_slice-2.ensures.value in
     record {
       value = λ s.
           let words_are = (said.value.1 s).0 in

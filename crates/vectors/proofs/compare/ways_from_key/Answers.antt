@@ -1,4 +1,4 @@
-use Rattle.std.proofs.Common.{◌≡◌, ℕ, List, vec_items, ap, ◌∙◌, subst}
+use Rattle.std.proofs.Common.{ℕ, List, vec_items, ap, ◌∙◌, subst}
 use Rattle.functions.specs.Functions.{from_key_table}
 use Rattle.sss.specs.Cipher.{key_table}
 use Rattle.vectors.specs.declared.compare.Function.TheVariants.{FromKey, LazyOverKey}
@@ -10,13 +10,13 @@ pub returns : goal.returns
 returns c =
     let v = c.args.vector.now in
     let start = vec_items c.args.found.now in
-    let one = vec_items c.two-ways.new.found in
-    let two = vec_items c.two-ways-2.new.found in
-    let loaded = c.in-ok-load.ensures in
-    let first = c.in-ok-two-ways.ensures in
-    let second = c.in-ok-two-ways-2.ensures in
+    let one = vec_items c.two_ways.new.found in
+    let two = vec_items c.two_ways-2.new.found in
+    let loaded = c.in_ok-load.ensures in
+    let first = c.in_ok-two_ways.ensures in
+    let second = c.in_ok-two_ways-2.ensures in
     let lazy = c.new-lazy.ensures in
-    let table = loaded.1 ∙ ap key_table c.as-slice.ensures.value in
+    let table = loaded.1 ∙ ap key_table c.as_slice.ensures.value in
     let table' = ap from_key_table lazy.below ∙ first.kept.meaning ∙ table in
     record {
       after =

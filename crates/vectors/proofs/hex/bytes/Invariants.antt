@@ -1,4 +1,4 @@
-use Rattle.std.proofs.Common.{◌≡◌, ℕ, ◌+◌, ◌*◌, ◌%◌, ◌<◌, length, get_or, Some, vec_items, vec_len}
+use Rattle.std.proofs.Common.{◌≡◌, ℕ, ◌+◌, ◌*◌, ◌<◌, get_or, Some, vec_items, vec_len}
 use Rattle.vectors.specs.Hex.{byte_of}
 use Rattle.vectors.proofs.hex.bytes.Given as goal
 

@@ -6,7 +6,7 @@ loop-i-preserved c = (
   search rules,
   below_more _ _
       (λ k h. c.push.ensures.by_index.0 k 0 (omega arith) ∙ c.loop-i.invariant.1 k h)
-      (let last = c.in-ok-push.ensures.by_index.1 0 refl in
-      let word = c.from-le-bytes.ensures in
+      (let last = c.in_ok-push.ensures.by_index.1 0 refl in
+      let word = c.from_le_bytes.ensures in
       let count = c.loop-i.invariant.0 in cc),
 )

@@ -15,7 +15,7 @@ one_more f more words w xs i pushed so_far here h =
 
 pub loop-i-preserved : goal.loop-i-preserved
 loop-i-preserved c =
-    let pushed = c.in-ok-push.ensures.items in
+    let pushed = c.in_ok-push.ensures.items in
     let i = c.loop-i.i in (
       one_more mask_of _ _ _ c.args.masks.now i pushed c.loop-i.invariant.0 refl (omega arith),
       one_more text_of _ _ _ c.args.texts.now i pushed c.loop-i.invariant.1 refl (omega arith),

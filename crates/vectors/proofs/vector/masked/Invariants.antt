@@ -1,4 +1,4 @@
-use Rattle.std.proofs.Common.{◌≡◌, map, take, vec_items, vec_len}
+use Rattle.std.proofs.Common.{◌≡◌, map, take, vec_items}
 use Rattle.vectors.specs.Fields.{mask_of, text_of}
 use Rattle.vectors.proofs.vector.masked.Given as goal
 

@@ -7,11 +7,11 @@ use Rattle.weld.proofs.passage.events.Goals as goal
 pub loop-entry-preserved : goal.loop-entry-preserved
 loop-entry-preserved c =
     read_more c.args.log.now c.loop-entry.entry-index c.entry-item.result (reading c.loop-entry.reader) (reading c.take.new.self)
-    c.loop-entry-test.true c.loop-entry.invariant c.entry-item.is c.in-ok-take.ensures
+    c.loop-entry-test.true c.loop-entry.invariant c.entry-item.is c.in_ok-take.ensures
 
 pub returns : goal.returns
 returns c =
     let log = c.args.log.now in
     let i = c.loop-entry.entry-index in
     read_all log i (reading c.loop-entry.reader) (reading c.settle.new.self) (take_all i log (omega arith)) c.loop-entry.invariant
-    c.in-ok-settle.ensures
+    c.in_ok-settle.ensures

@@ -1,5 +1,4 @@
-use Rattle.std.proofs.Common.{◌≡◌, ℕ, get_or, ap, ◌∙◌}
-use lib.Bits.{bit_xor}
+use Rattle.std.proofs.Common.{ℕ, get_or, ap, ◌∙◌}
 use Rattle.sss.specs.Tables.{products}
 use Rattle.sss.specs.Cipher.{product}
 use Rattle.functions.proofs.coefficient.PrintedTableCoefficient.multiply.Goals as goal
@@ -7,5 +6,5 @@ use Rattle.functions.proofs.coefficient.PrintedTableCoefficient.multiply.Goals a
 pub returns : goal.returns
 unfolding product
 returns c =
-    let entry = c.printed-product.ensures.value ∙ ap (λ (i : ℕ). get_or products i 0) c.high-byte.ensures in
+    let entry = c.printed_product.ensures.value ∙ ap (λ (i : ℕ). get_or products i 0) c.high_byte.ensures in
     cc c.shifted.ensures

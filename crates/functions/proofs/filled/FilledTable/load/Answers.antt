@@ -5,5 +5,5 @@ use Rattle.functions.proofs.Keys.{key_table_lawful}
 
 pub returns : goal.returns
 returns c =
-    let filled = c.key-entries-self.ensures in
-    (c.in-ok-check-key.ensures, filled, subst Lawful (sym filled) (key_table_lawful c.args.key.now (λ i. (c.type-inv.key i).fits)))
+    let filled = c.key_entries-self.ensures in
+    (c.in_ok-check_key.ensures, filled, subst Lawful (sym filled) (key_table_lawful c.args.key.now (λ i. (c.type_inv.key i).fits)))

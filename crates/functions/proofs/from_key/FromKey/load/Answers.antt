@@ -1,4 +1,4 @@
-use Rattle.std.proofs.Common.{◌≡◌, length, sym, ap, ◌∙◌, subst}
+use Rattle.std.proofs.Common.{length, sym, ap, ◌∙◌, subst}
 use Rattle.std.proofs.lemmas.List.{take_at}
 use Rattle.sss.specs.Cipher.{Lawful, key_table}
 use Rattle.functions.specs.Functions.{from_key_table}
@@ -9,6 +9,6 @@ pub returns : goal.returns
 unfolding from_key_table
 returns c =
     let key = c.args.key.now in
-    let copied = c.copy-from-slice.ensures.after in
-    let table = ap key_table (take_at c.copy-from-slice.new.self _ (length key) (ap length copied) ∙ copied) in
-    (c.in-ok-check-key.ensures, table, subst Lawful (sym table) (key_table_lawful key (λ i. (c.type-inv.key i).fits)))
+    let copied = c.copy_from_slice.ensures.after in
+    let table = ap key_table (take_at c.copy_from_slice.new.self _ (length key) (ap length copied) ∙ copied) in
+    (c.in_ok-check_key.ensures, table, subst Lawful (sym table) (key_table_lawful key (λ i. (c.type_inv.key i).fits)))

@@ -1,4 +1,4 @@
-use Rattle.std.proofs.Common.{◌≡◌, ℕ, ◌/◌, List, get_or, set, Some, None, Option, sym, refl, ap, ◌∙◌, subst}
+use Rattle.std.proofs.Common.{ℕ, ◌/◌, List, get_or, set, Some, None, sym, refl, ap, ◌∙◌, subst}
 use lib.Bits.{bit_xor}
 use Rattle.functions.specs.Functions.{Remembers}
 use Rattle.functions.proofs.Remembered.{image_of_known, remembers_more, entry_of_image, known_again}
@@ -8,7 +8,7 @@ pub returns-in-Some : goal.returns-in-Some
 returns-in-Some g c =
     let S = g.K.KeyedFunction.table c.args.self.now.below in
     let entries = c.args.self.now.entries in
-    let here = c.in-Some.ensures ∙ ap (λ (i : ℕ). get_or entries i None) c.high-byte-i.ensures in
+    let here = c.in-Some.ensures ∙ ap (λ (i : ℕ). get_or entries i None) c.high_byte-i.ensures in
     record {
       value = λ s. image_of_known S entries s.1 c.args.a c.in-Some.known here;
       kept = record { meaning = refl; sound = λ s. s };
@@ -21,7 +21,7 @@ returns-in-None g c =
     let entries = c.args.self.now.entries in
     let asked = c.apply-image.ensures in
     let entry = bit_xor c.apply-image.result c.args.a in
-    let place = c.from.ensures ∙ c.high-byte-i.ensures in
+    let place = c.from.ensures ∙ c.high_byte-i.ensures in
     let put = ap (λ (i : ℕ). set entries i (Some entry)) place in
     record {
       value = λ s. asked.value s.0;

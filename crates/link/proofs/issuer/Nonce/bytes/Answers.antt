@@ -8,4 +8,4 @@ returns c =
     let x = c.args.self.now.run in
     let second : x / 65536 % 256 ≡ x / 256 / 256 % 256 = omega arith in
     let third : x / 16777216 % 256 ≡ x / 256 / 256 / 256 % 256 = omega arith in
-    simp (c.to-le-bytes.ensures, c.to-le-bytes-2.ensures) (cc)
+    simp (c.to_le_bytes.ensures, c.to_le_bytes-2.ensures) (cc)

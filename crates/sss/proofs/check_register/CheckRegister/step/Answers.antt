@@ -1,4 +1,3 @@
-use Rattle.std.proofs.Common.{◌≡◌}
 use Rattle.sss.specs.Cipher.{check_step}
 use Rattle.sss.proofs.check_register.CheckRegister.step.Goals as goal
 

@@ -11,7 +11,7 @@ returns g c =
           let first = c.apply-inner.ensures.value s in
           let table = c.apply-inner.ensures.kept.meaning in
           let second = c.apply.ensures.value (c.apply-inner.ensures.kept.sound s) in
-          let turned = rot8_is c.apply.result c.apply.type-inv in
+          let turned = rot8_is c.apply.result c.apply.type_inv in
           cc;
       kept = kept_twice c.apply-inner.ensures.kept c.apply.ensures.kept;
     }

@@ -13,8 +13,8 @@ returns g c =
           let table = c.apply.ensures.kept.meaning in
           let second = c.apply-image.ensures.value (c.apply.ensures.kept.sound s) in
           let enters = rot8_is c.args.c c.ranges.c.fits in
-          let turned = rot8_is c.at-3.result c.at-3.type-inv in
+          let turned = rot8_is c.at-3.result c.at-3.type_inv in
           cc;
-      «one-to-one» = λ s. keyed_one_to_one (g.K.KeyedFunction.table c.args.f.now) (g.met.K.KeyedFunction.lawful c.args.f.now s);
+      one_to_one = λ s. keyed_one_to_one (g.K.KeyedFunction.table c.args.f.now) (g.met.K.KeyedFunction.lawful c.args.f.now s);
       kept = kept_twice c.apply.ensures.kept c.apply-image.ensures.kept;
     }

@@ -6,8 +6,8 @@ use Rattle.sss.proofs.registers.Registers.begin.Goals as goal
 pub returns : goal.returns
 unfolding begun
 returns g c =
-    let first = c.take-nonce.ensures in
-    let then = c.take-open-zeros.ensures in
+    let first = c.take_nonce.ensures in
+    let then = c.take_open_zeros.ensures in
     record {
       value = (
         (omega arith, omega arith),

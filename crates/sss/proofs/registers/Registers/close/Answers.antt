@@ -7,7 +7,7 @@ pub returns : goal.returns
 unfolding state tag closed drawn_from
 returns g c =
     let first = c.feed.ensures in
-    let then = c.feed-check.ensures in
+    let then = c.feed_check.ensures in
     let both = kept_twice first.kept then.kept in
     record {
       value = λ s.

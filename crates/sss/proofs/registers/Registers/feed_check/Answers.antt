@@ -1,4 +1,4 @@
-use Rattle.std.proofs.Common.{◌≡◌, ℕ, ◌+◌, ◌-◌, ◌<◌, List, [], ◌∷◌, reverse, length, get_or, take, sym, refl, ap, ◌∙◌, subst, arith}
+use Rattle.std.proofs.Common.{◌≡◌, ℕ, ◌+◌, ◌-◌, ◌<◌, List, reverse, length, get_or, take, sym, refl, ap, ◌∙◌, subst, arith}
 use Rattle.sss.specs.Cipher.{keyed, fed, all_fed}
 use Rattle.sss.specs.Registers.{window}
 use Rattle.sss.proofs.Asked.{kept_twice}

@@ -23,13 +23,13 @@ loop-word-preserved g c =
     let none : MaskedWord = record { mask = 0; text = 0 } in
     let w : MaskedWord = get_or c.loop-word.words c.loop-word.word-index none in
     let kept = c.loop-word.invariant.1 in
-    let said = c.open-word-word.ensures in
+    let said = c.open_word-word.ensures in
     let put : ℕ → MaskedWord = λ t. record { mask = w.mask; text = t } in (
       λ s.
-          let word = subst (λ (T : List ℕ). c.open-word-word.result ≡ plain_word (keyed T) now w.mask w.text) kept.meaning (said.value (kept.sound s)) in
-          let next = subst (λ (T : List ℕ). state c.open-word-word.new.self ≡ taken (keyed T) A now w.mask (plain_word (keyed T) now w.mask w.text)) kept.meaning (said.registers (kept.sound s)) in
+          let word = subst (λ (T : List ℕ). c.open_word-word.result ≡ plain_word (keyed T) now w.mask w.text) kept.meaning (said.value (kept.sound s)) in
+          let next = subst (λ (T : List ℕ). state c.open_word-word.new.self ≡ taken (keyed T) A now w.mask (plain_word (keyed T) now w.mask w.text)) kept.meaning (said.registers (kept.sound s)) in
           translating_more (opening f A) (after_opening f A) (state c.args.self.now) c.args.words.now now c.loop-word.words c.loop-word.word-index
-          (c.loop-word.invariant.0 s) none (put c.open-word-word.result) (state c.open-word-word.new.self) (omega arith) (ap put word) next,
+          (c.loop-word.invariant.0 s) none (put c.open_word-word.result) (state c.open_word-word.new.self) (omega arith) (ap put word) next,
       kept_twice kept said.kept,
     )
 

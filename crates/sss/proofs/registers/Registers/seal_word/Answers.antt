@@ -18,7 +18,7 @@ returns g c =
           cc;
       mactext = λ s.
           let v = asked.value s in
-          let word = subst Word v c.keystream-v.type-inv in
+          let word = subst Word v c.keystream-v.type_inv in
           mactext_is c.args.mask _ c.args.plain c.ranges.mask.fits word ∙ cc;
       kept = kept_twice asked.kept c.absorb.ensures.kept;
     }

@@ -1,4 +1,4 @@
-use Rattle.std.proofs.Common.{◌≡◌, ℕ, ◌+◌, List, sym, refl, ◌∙◌, subst}
+use Rattle.std.proofs.Common.{◌≡◌, ℕ, List, sym, refl, ◌∙◌, subst}
 use Rattle.sss.specs.Cipher.{keyed, nonce_taken}
 use Rattle.sss.specs.Registers.{state}
 use Rattle.sss.proofs.Asked.{kept_twice}
@@ -16,11 +16,11 @@ loop-i-preserved g c =
     let now = state c.loop-i.self in
     let kept = c.loop-i.invariant.1 in (
       λ s.
-          let step = subst (λ (T : List ℕ). state c.take-nonce-word.new.self ≡ nonce_taken (keyed T) A now c.from-le-bytes-word.result) kept.meaning
-          (c.take-nonce-word.ensures.registers (kept.sound s)) in
-          nonces_more f A now (state c.take-nonce-word.new.self) c.args.nonce.now c.loop-i.i c.from-le-bytes-word.result
-          c.loop-i-test.true c.from-le-bytes-word.ensures step ∙ c.loop-i.invariant.0 s,
-      kept_twice kept c.take-nonce-word.ensures.kept,
+          let step = subst (λ (T : List ℕ). state c.take_nonce_word.new.self ≡ nonce_taken (keyed T) A now c.from_le_bytes-word.result) kept.meaning
+          (c.take_nonce_word.ensures.registers (kept.sound s)) in
+          nonces_more f A now (state c.take_nonce_word.new.self) c.args.nonce.now c.loop-i.i c.from_le_bytes-word.result
+          c.loop-i-test.true c.from_le_bytes-word.ensures step ∙ c.loop-i.invariant.0 s,
+      kept_twice kept c.take_nonce_word.ensures.kept,
     )
 
 pub returns : goal.returns

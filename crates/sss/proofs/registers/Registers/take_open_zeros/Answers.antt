@@ -14,13 +14,13 @@ loop-preserved g c =
     let f = keyed (m.table c.args.f.now) in
     let A = g.C.Coefficient.image c.args.a.now in
     let now = state c.loop.self in
-    let next = state c.seal-word.new.self in
+    let next = state c.seal_word.new.self in
     let kept = c.loop.invariant.1 in
     let left : 17 - (c.loop.counter + 1) ≡ 17 - c.loop.counter - 1 = omega arith in (
       λ s.
-          let step = subst (λ (T : List ℕ). next ≡ taken (keyed T) A now 0 0) kept.meaning (c.seal-word.ensures.registers (kept.sound s)) in
+          let step = subst (λ (T : List ℕ). next ≡ taken (keyed T) A now 0 0) kept.meaning (c.seal_word.ensures.registers (kept.sound s)) in
           ap (λ (n : ℕ). open_zeros f A n next) left ∙ zeros_more f A (17 - c.loop.counter) now next (omega arith) step ∙ c.loop.invariant.0 s,
-      kept_twice kept c.seal-word.ensures.kept,
+      kept_twice kept c.seal_word.ensures.kept,
     )
 
 pub returns : goal.returns

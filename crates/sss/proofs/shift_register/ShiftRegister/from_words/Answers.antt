@@ -6,5 +6,5 @@ use Rattle.sss.proofs.shift_register.ShiftRegister.from_words.Goals as goal
 pub returns : goal.returns
 unfolding window
 returns c =
-    let copied = c.copy-from-slice.ensures in
-    take_at c.copy-from-slice.new.self _ 17 copied.len ∙ copied.after
+    let copied = c.copy_from_slice.ensures in
+    take_at c.copy_from_slice.new.self _ 17 copied.len ∙ copied.after

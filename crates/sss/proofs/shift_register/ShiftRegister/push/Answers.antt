@@ -1,4 +1,4 @@
-use Rattle.std.proofs.Common.{◌≡◌, ℕ, ◌+◌, ◌<◌, List, [], ◌∷◌, ◌++◌, length, drop, set, sym, refl, ap, ◌∙◌, arith, rules}
+use Rattle.std.proofs.Common.{◌≡◌, ℕ, ◌+◌, ◌<◌, List, [], ◌∷◌, ◌++◌, length, drop, set, ap, ◌∙◌, arith, rules}
 use Rattle.sss.specs.Registers.{window}
 use Rattle.sss.proofs.Windows.{view, view_push}
 use Rattle.sss.proofs.shift_register.ShiftRegister.push.Goals as goal

@@ -1,4 +1,4 @@
-use Rattle.std.proofs.Common.{◌≡◌, ℕ, ◌+◌, ◌<◌, ◌≤◌, length, sym, refl, ap, ◌∙◌, subst, arith, rules}
+use Rattle.std.proofs.Common.{◌≡◌, ℕ, ◌+◌, ◌≤◌, length, refl, ap, ◌∙◌, subst, arith, rules}
 use Rattle.sss.specs.Registers.{window}
 use Rattle.sss.proofs.Windows.{view, Copied, copied_none, copied_more, view_copied}
 use Rattle.sss.proofs.shift_register.ShiftRegister.rewind.Goals as goal

@@ -9,4 +9,4 @@ returns c =
     let buffer = c.args.self.now.buffer in
     let start = c.from-start.result in
     let whole : start + 17 - start ≡ 17 = omega arith in
-    c.copy-from-slice.ensures.after ∙ ap (λ (n : ℕ). take n (drop start buffer)) whole ∙ ap (λ (s : ℕ). view s buffer) c.from-start.ensures
+    c.copy_from_slice.ensures.after ∙ ap (λ (n : ℕ). take n (drop start buffer)) whole ∙ ap (λ (s : ℕ). view s buffer) c.from-start.ensures

@@ -1,4 +1,4 @@
-use Rattle.std.proofs.Common.{◌≡◌, List, ◌++◌, vec_items, sym, ap, ◌∙◌, append_assoc}
+use Rattle.std.proofs.Common.{◌≡◌, List, ◌++◌, vec_items, ◌∙◌, append_assoc}
 use Rattle.vectors.specs.declared.compare.Comparison.TheVariants.{Wire}
 use Rattle.vectors.specs.declared.compare.Difference.{Difference}
 use Rattle.vectors.specs.Ways.{failed}
@@ -12,4 +12,4 @@ four v₀ v₁ v₂ v₃ v₄ a b c d p q r s =
 
 pub returns : goal.returns
 returns c =
-    record { after = four (vec_items c.args.found.now) _ _ _ _ (failed c.args.self c.args.way Wire) _ _ _ c.in-ok-note.ensures.after c.in-ok-note-2.ensures.after c.in-ok-note-3.ensures.after c.in-ok-note-4.ensures.after }
+    record { after = four (vec_items c.args.found.now) _ _ _ _ (failed c.args.self c.args.way Wire) _ _ _ c.in_ok-note.ensures.after c.in_ok-note-2.ensures.after c.in_ok-note-3.ensures.after c.in_ok-note-4.ensures.after }

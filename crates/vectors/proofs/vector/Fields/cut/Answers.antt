@@ -1,4 +1,4 @@
-use Rattle.std.proofs.Common.{◌≡◌, ℕ, List, [], ◌∷◌, map, length, get_or, vec_items, sym, ap, ◌∙◌, arith, Bor}
+use Rattle.std.proofs.Common.{◌≡◌, ℕ, List, [], ◌∷◌, map, length, get_or, vec_items, ap, ◌∙◌, arith, Bor}
 use Rattle.std.specs.List.{join_with_byte}
 use Rattle.vectors.proofs.vector.Fields.cut.Goals as goal
 
@@ -17,8 +17,8 @@ six (p ∷ q ∷ r ∷ s ∷ t ∷ u ∷ v ∷ w) a b c d e f n ha hb hc hd he h
 
 pub returns : goal.returns
 returns c =
-    let told = c.in-ok-texts.ensures in
-    let texts = c.in-ok-texts.texts in
+    let told = c.in_ok-texts.ensures in
+    let texts = c.in_ok-texts.texts in
     let long : length (vec_items texts) ≡ 6 = omega (arith, texts.ok.0) in
     let all = six (vec_items texts) _ _ _ _ _ _ long c.index.ensures c.index-2.ensures c.index-3.ensures c.index-4.ensures c.index-5.ensures c.index-6.ensures in
     record { value = (told.joined ∙ ap (λ xs. join_with_byte 32 (map (λ (x : Bor (List ℕ)). x.now) xs)) all, omega (arith, told.count)) }

@@ -17,6 +17,6 @@ not_parsed line texts n cut NoMemory h = tt
 pub returns : goal.returns
 returns c =
     let line = c.args.line.now in
-    let texts = texts_of c.in-ok-cut.field-0 in
-    let cut : Cut line texts = subst (λ (l : List ℕ). Cut l texts) c.in-Ok.ensures.cases.0 c.in-ok-cut.ensures.value in
+    let texts = texts_of c.in_ok-cut.field-0 in
+    let cut : Cut line texts = subst (λ (l : List ℕ). Cut l texts) c.in-Ok.ensures.cases.0 c.in_ok-cut.ensures.value in
     record { value = MatchResult-weaker c.read.result c.read.ensures.value (λ v h. (texts, refl, cut, h)) (not_parsed line texts refl cut) }

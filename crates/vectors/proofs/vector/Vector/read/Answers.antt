@@ -1,4 +1,4 @@
-use Rattle.std.proofs.Common.{◌≡◌, ℕ, List, map, length, Ok, Err, vec_items, vec_len, Result, sym, ◌∙◌, subst, arith, MatchResult}
+use Rattle.std.proofs.Common.{◌≡◌, vec_items, Result, sym, ◌∙◌, subst, arith, MatchResult}
 use Rattle.std.proofs.lemmas.Result.{err_from_is_err_and}
 use Rattle.vectors.specs.declared.vector.Field.TheVariants.{Key, Nonce, Masks, Plaintext, Wire, Tag}
 use Rattle.vectors.specs.declared.vector.Malformed.TheVariants.{InField}
@@ -10,29 +10,29 @@ use Rattle.vectors.proofs.Placed.{ok_of, err_of}
 use Rattle.vectors.proofs.vector.Vector.read.Goals as goal
 use Rattle.vectors.proofs.vector.Vector.read.Goals.{then-len-via-then-len, then-len-via-else-len+then-len-2}
 
-pub returns-in-err-wire : goal.returns-in-err-wire
-returns-in-err-wire c =
+pub returns-in_err-wire : goal.returns-in_err-wire
+returns-in_err-wire c =
     let text = c.args.fields.wire.now in
-    let p = err_from_is_err_and c.from-residual-in-err-wire.result c.from-residual-in-err-wire.ensures.1 in
-    let q = err_of Wire c.field-words-3.result (λ v. FieldWords text (vec_items v)) (NoWords text) _ c.in-err-wire.ensures.value c.field-words-3.ensures.value in
+    let p = err_from_is_err_and c.from_residual-in_err-wire.result c.from_residual-in_err-wire.ensures.1 in
+    let q = err_of Wire c.field_words-3.result (λ v. FieldWords text (vec_items v)) (NoWords text) _ c.in_err-wire.ensures.value c.field_words-3.ensures.value in
     let same : p.0 ≡ InField Wire q.0 = cc (p.2, q.1) in
     let texts = texts_of c.args.fields in
     record { value = subst (λ (r : Result Vector Malformed). MatchResult r (Reads texts) (NotRead texts)) (sym p.1) (subst (NotRead texts) (sym same) q.2) }
 
 pub returns-then-len : goal.returns-then-len
 returns-then-len c =
-    let masks = c.in-ok-masks.masks in
-    let plaintext = c.in-ok-plaintext.plaintext in
-    let wire = c.in-ok-wire.wire in
+    let masks = c.in_ok-masks.masks in
+    let plaintext = c.in_ok-plaintext.plaintext in
+    let wire = c.in_ok-wire.wire in
     let f = c.args.fields in
     record {
       value = (
         vec_items masks,
         vec_items plaintext,
         vec_items wire,
-        ok_of Masks c.field-words.result (λ v. FieldWords f.masks.now (vec_items v)) (NoWords f.masks.now) _ c.in-ok-masks.ensures.value c.field-words.ensures.value,
-        ok_of Plaintext c.field-words-2.result (λ v. FieldWords f.plaintext.now (vec_items v)) (NoWords f.plaintext.now) _ c.in-ok-plaintext.ensures.value c.field-words-2.ensures.value,
-        ok_of Wire c.field-words-3.result (λ v. FieldWords f.wire.now (vec_items v)) (NoWords f.wire.now) _ c.in-ok-wire.ensures.value c.field-words-3.ensures.value,
+        ok_of Masks c.field_words.result (λ v. FieldWords f.masks.now (vec_items v)) (NoWords f.masks.now) _ c.in_ok-masks.ensures.value c.field_words.ensures.value,
+        ok_of Plaintext c.field_words-2.result (λ v. FieldWords f.plaintext.now (vec_items v)) (NoWords f.plaintext.now) _ c.in_ok-plaintext.ensures.value c.field_words-2.ensures.value,
+        ok_of Wire c.field_words-3.result (λ v. FieldWords f.wire.now (vec_items v)) (NoWords f.wire.now) _ c.in_ok-wire.ensures.value c.field_words-3.ensures.value,
         λ a b. elim c.then-len.branch [ then-len-via-then-len w ↦ omega (arith, w.if-len.true, c.len.ensures, c.len-2.ensures, masks.ok.0, plaintext.ok.0) | then-len-via-else-len+then-len-2 w ↦ omega (arith, w.if-len-2.true, w.len-else-len.ensures, w.len-else-len-2.ensures, masks.ok.0, wire.ok.0) ],
       );
     }
@@ -40,17 +40,17 @@ returns-then-len c =
 pub returns : goal.returns
 returns c =
     let f = c.args.fields in
-    let masks = ok_of Masks c.field-words.result (λ v. FieldWords f.masks.now (vec_items v)) (NoWords f.masks.now) _ c.in-ok-masks.ensures.value c.field-words.ensures.value in
-    let plaintext = ok_of Plaintext c.field-words-2.result (λ v. FieldWords f.plaintext.now (vec_items v)) (NoWords f.plaintext.now) _ c.in-ok-plaintext.ensures.value c.field-words-2.ensures.value in
-    let wire = ok_of Wire c.field-words-3.result (λ v. FieldWords f.wire.now (vec_items v)) (NoWords f.wire.now) _ c.in-ok-wire.ensures.value c.field-words-3.ensures.value in
+    let masks = ok_of Masks c.field_words.result (λ v. FieldWords f.masks.now (vec_items v)) (NoWords f.masks.now) _ c.in_ok-masks.ensures.value c.field_words.ensures.value in
+    let plaintext = ok_of Plaintext c.field_words-2.result (λ v. FieldWords f.plaintext.now (vec_items v)) (NoWords f.plaintext.now) _ c.in_ok-plaintext.ensures.value c.field_words-2.ensures.value in
+    let wire = ok_of Wire c.field_words-3.result (λ v. FieldWords f.wire.now (vec_items v)) (NoWords f.wire.now) _ c.in_ok-wire.ensures.value c.field_words-3.ensures.value in
     record {
       value = (
-        ok_of Key c.field-bytes.result (λ v. FieldBytes f.key.now (vec_items v)) (NoBytes f.key.now) _ c.in-ok-key.ensures.value c.field-bytes.ensures.value,
-        ok_of Nonce c.field-bytes-2.result (λ v. FieldBytes f.nonce.now (vec_items v)) (NoBytes f.nonce.now) _ c.in-ok-nonce.ensures.value c.field-bytes-2.ensures.value,
-        subst (FieldWords f.masks.now) (sym (c.in-ok-plaintext-2.ensures.masks ∙ c.as-slice.ensures.value)) masks,
-        subst (FieldWords f.masks.now) (sym (c.in-ok-wire-2.ensures.masks ∙ c.as-slice-3.ensures.value)) masks,
-        subst (FieldWords f.plaintext.now) (sym (c.in-ok-plaintext-2.ensures.texts ∙ c.as-slice-2.ensures.value)) plaintext,
-        subst (FieldWords f.wire.now) (sym (c.in-ok-wire-2.ensures.texts ∙ c.as-slice-4.ensures.value)) wire,
-        ok_of Tag c.field-tag.result (FieldWords f.tag.now) (NoTag f.tag.now) _ c.in-ok-tag.ensures.value c.field-tag.ensures.value,
+        ok_of Key c.field_bytes.result (λ v. FieldBytes f.key.now (vec_items v)) (NoBytes f.key.now) _ c.in_ok-key.ensures.value c.field_bytes.ensures.value,
+        ok_of Nonce c.field_bytes-2.result (λ v. FieldBytes f.nonce.now (vec_items v)) (NoBytes f.nonce.now) _ c.in_ok-nonce.ensures.value c.field_bytes-2.ensures.value,
+        subst (FieldWords f.masks.now) (sym (c.in_ok-plaintext-2.ensures.masks ∙ c.as_slice.ensures.value)) masks,
+        subst (FieldWords f.masks.now) (sym (c.in_ok-wire-2.ensures.masks ∙ c.as_slice-3.ensures.value)) masks,
+        subst (FieldWords f.plaintext.now) (sym (c.in_ok-plaintext-2.ensures.texts ∙ c.as_slice-2.ensures.value)) plaintext,
+        subst (FieldWords f.wire.now) (sym (c.in_ok-wire-2.ensures.texts ∙ c.as_slice-4.ensures.value)) wire,
+        ok_of Tag c.field_tag.result (FieldWords f.tag.now) (NoTag f.tag.now) _ c.in_ok-tag.ensures.value c.field_tag.ensures.value,
       );
     }
