@@ -364,7 +364,7 @@ mod tests {
         let [_, refused, withheld, begun, read, finished, broken_off] = log else {
             return false;
         };
-        matches!(refused, Entry::OfReceiver(ReceiverEntry::Refused { nonce, fault: Fault::Nonce }) if nonce.as_slice() == [1])
+        matches!(refused, Entry::OfReceiver(ReceiverEntry::Refused { nonce, fault: Fault::Nonce }) if nonce.as_slice() == [1].as_slice())
             && matches!(
                 withheld,
                 Entry::OfReceiver(ReceiverEntry::Received {

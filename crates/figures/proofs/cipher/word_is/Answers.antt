@@ -1,4 +1,4 @@
-use Rattle.std.proofs.Common.{◌≡◌, ℕ, Bool, ◌&&◌, eqb, List, [], ◌∷◌, get_or, refl, ap, ◌∙◌}
+use Rattle.std.proofs.Common.{◌≡◌, ℕ, ◌&&◌, eqb, List, [], ◌∷◌, get_or, ap, ◌∙◌}
 use lib.Bits.{bit_xor, xor_zero_r}
 use Rattle.sss.specs.Tables.{products}
 use Rattle.sss.specs.Cipher.{State, keyed, key_table, keystream, taken, wire_word, zeroed, check_step, masked, mactext, product}

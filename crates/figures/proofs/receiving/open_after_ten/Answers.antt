@@ -1,4 +1,4 @@
-use Rattle.std.proofs.Common.{◌≡◌, refl}
+use Rattle.std.proofs.Common.{◌≡◌}
 use Rattle.link.specs.declared.reception.Answer.TheVariants.{Withheld}
 use Rattle.figures.proofs.Answering.{answered}
 use Rattle.figures.proofs.KnownFigures.{release}
@@ -9,5 +9,4 @@ returns c =
     let receiver = c.after_sealed.ensures in
     let answer : c.word.result ≡ Withheld 0 =
     answered 10 0x0000 _ _ (c.word.ensures.value receiver.sound) receiver.reception (release 14 0) in
-    let equal = simp answer at c.eq.ensures in
-    equal.1 refl
+    simp answer at c.eq.ensures

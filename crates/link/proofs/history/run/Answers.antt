@@ -63,7 +63,7 @@ returns-in_err-history g c =
     let all : List Call = into_iter_items c.into_iter-call-iterator.result in
     let left : List Call = into_iter_items c.loop-call.call-iterator in
     let rest : List Call = into_iter_items c.next.new.self in
-    let count : length all ≡ vec_len c.args.calls = omega (arith, ap length c.into_iter-call-iterator.ensures.into_iter-gives.0, c.args.calls.ok) in
+    let count : length all ≡ vec_len c.args.calls = omega (arith, ap length c.into_iter-call-iterator.ensures.into_iter_gives.0, c.args.calls.ok) in
     record {
       value = search rules;
       law = search rules;
@@ -104,13 +104,13 @@ returns g c =
     (ap g.SC.Coefficient.image sealer.coefficient) (ap (λ x. keyed (R.table x)) receiver.function)
     (ap g.RC.Coefficient.image receiver.coefficient)
     (inv.0 (subst S.sound (sym sealer.function) s) (subst R.sound (sym receiver.function) r)) in
-    to_come_none f A f' A' start (after c.loop-call.history) all rest calls so none new c.into_iter-call-iterator.ensures.into_iter-gives.0 in
+    to_come_none f A f' A' start (after c.loop-call.history) all rest calls so none new c.into_iter-call-iterator.ensures.into_iter_gives.0 in
     record {
       value = value;
       law = λ s r table image.
           history_law f A f' A' (keyed_one_to_one (S.table c.args.sealer.0) (g.met.SK.KeyedFunction.lawful c.args.sealer.0 s))
           (g.met.SC.Coefficient.lawful c.args.sealer.1) (ap keyed table) image calls
-          (subst (All CallFits) c.into_iter-call-iterator.ensures.into_iter-gives.0 (inv.1 (fits_none rest none)))
+          (subst (All CallFits) c.into_iter-call-iterator.ensures.into_iter_gives.0 (inv.1 (fits_none rest none)))
           (after c.loop-call.history) (value s r);
       meaning =
           record {

@@ -14,6 +14,6 @@ pub returns-in-Lost-Word : goal.returns-in-Lost-Word
 unfolding row_after with_row
 returns-in-Lost-Word c = search rules
 
-pub returns-in-Lost-Word·2 : goal.returns-in-Lost-Word·2
+pub returns-in-Lost-Word-2 : goal.returns-in-Lost-Word-2
 unfolding row_after with_row
-returns-in-Lost-Word·2 c = search rules
+returns-in-Lost-Word-2 c = search rules
