@@ -1,13 +1,13 @@
 -- One word that was received otherwise than it was sent, among words that were received as they were sent.
 use Rattle.std.proofs.Common.{◌≡◌, ℕ, ◌≤◌, ◌≢◌, List, [], ◌∷◌, ◌++◌, length, sym, ap, ◌∙◌, subst}
-use Rattle.std.specs.List.{AllByRecursion as All}
+use Rattle.std.specs.List.{AllByRecursion as Every}
 use Rattle.sss.specs.Cipher.{State, Word, OneToOne, drawn_from}
 use Rattle.sss.specs.declared.message.MaskedWord.{MaskedWord}
 use Rattle.link.specs.Law.{OneAltered}
 use Rattle.link.proofs.Received.{Sized, WireWord, received, all_received, all_received_sized, all_received-++}
 use Rattle.link.proofs.Altered.{altered, altered_drawn}
 
-all_parts : {X : Type 0} (P : X → Type 0) (xs ys : List X) → All P (xs ++ ys) → All P xs × All P ys
+all_parts : {X : Type 0} (P : X → Type 0) (xs ys : List X) → Every P (xs ++ ys) → Every P xs × Every P ys
 all_parts P [] ys h = (tt, h)
 all_parts P (x ∷ xs) ys h = let t = all_parts P xs ys h.1 in ((h.0, t.0), t.1)
 
@@ -19,17 +19,17 @@ record Apart (f A : ℕ → ℕ) (b : State) (sent heard : List MaskedWord) (a :
   heard_to : all_received f A b heard ≡ all_received f A (received f A before a.mask a.became) a.later
   was_word : Word a.was
   became_word : Word a.became
-  later_words : All WireWord a.later
+  later_words : Every WireWord a.later
 
 module _ (f A : ℕ → ℕ) (onef : OneToOne f) (oneA : OneToOne A) (b : State) (k : Sized b) (sent heard : List MaskedWord)
-    (ls : All WireWord sent) (lh : All WireWord heard) where
+    (ls : Every WireWord sent) (lh : Every WireWord heard) where
   apart : (a : OneAltered sent heard) → Apart f A b sent heard a
   unfolding all_received
   apart a =
       let was : MaskedWord = record { mask = a.mask; text = a.was } in
       let became : MaskedWord = record { mask = a.mask; text = a.became } in
-      let fs = all_parts WireWord a.front (was ∷ a.later) (subst (All WireWord) a.sent_is ls) in
-      let fh = all_parts WireWord a.front (became ∷ a.later) (subst (All WireWord) a.heard_is lh) in
+      let fs = all_parts WireWord a.front (was ∷ a.later) (subst (Every WireWord) a.sent_is ls) in
+      let fh = all_parts WireWord a.front (became ∷ a.later) (subst (Every WireWord) a.heard_is lh) in
       record {
         before = all_received f A b a.front;
         sized = all_received_sized f A onef oneA b a.front k fs.0;

@@ -1,7 +1,7 @@
 -- An altered word shows in the check register, and then in the register that the tag is drawn from.
 use Rattle.std.proofs.Common.{◌≡◌, ℕ, zero, suc, ◌+◌, ◌-◌, ◌<◌, ◌≤◌, ◌≢◌, List, [], ◌∷◌, ◌++◌, map, reverse, length, get_or, take, drop, sym, refl, ap, ◌∙◌, subst, inl, inr, arith}
 use lib.Bits.{bit_and, bit_xor}
-use Rattle.std.specs.List.{AllByRecursion as All}
+use Rattle.std.specs.List.{AllByRecursion as Every}
 use Rattle.std.proofs.lemmas.Bool.{cases_lt}
 use Rattle.std.proofs.ByRecursion.{All-take, All-drop, All-from_get_or}
 use Rattle.std.proofs.lemmas.List.{ext_get_or, get_or_append_left, get_or-drop, get_or_push, get_or-reverse, length-drop, length-map, length-reverse, length-take-le, reverse-reverse, take-append-drop}
@@ -120,7 +120,7 @@ module _ (f A : ℕ → ℕ) where
       xor_cancel m n (bit_and k v) (xor_cancel (bit_xor m (bit_and k v)) (bit_xor n (bit_and k v)) v e)
 
 module _ (f A : ℕ → ℕ) (onef : OneToOne f) (oneA : OneToOne A) where
-  all_received_moves : (g : State) (ws : List MaskedWord) (i : ℕ) → Sized g → All WireWord ws → i + length ws ≤ 16 →
+  all_received_moves : (g : State) (ws : List MaskedWord) (i : ℕ) → Sized g → Every WireWord ws → i + length ws ≤ 16 →
       get_or (all_received f A g ws).c i 0 ≡ get_or g.c (i + length ws) 0
   unfolding all_received
   all_received_moves g [] i h l b = ap (λ (k : ℕ). get_or g.c k 0) (omega arith)
@@ -129,7 +129,7 @@ module _ (f A : ℕ → ℕ) (onef : OneToOne f) (oneA : OneToOne A) where
       received_moves f A g w.mask w.text (i + length ws) h (omega arith) ∙ ap (λ (k : ℕ). get_or g.c k 0) (omega arith)
 
   -- Equal check registers after the same words from equal cipher registers were equal before them.
-  all_received_back : (g h : State) (ws : List MaskedWord) → Sized g → Sized h → All WireWord ws → g.r ≡ h.r →
+  all_received_back : (g h : State) (ws : List MaskedWord) → Sized g → Sized h → Every WireWord ws → g.r ≡ h.r →
       (all_received f A g ws).c ≡ (all_received f A h ws).c → g.c ≡ h.c
   unfolding all_received
   all_received_back g h [] p q l e s = s
@@ -168,7 +168,7 @@ module _ (f A : ℕ → ℕ) (onef : OneToOne f) (oneA : OneToOne A) where
       keystream_back g h k m n wm wn (xor_cancel_left y (keystream f gm.r) (keystream f gn.r) macs)
 
   -- Up to sixteen words on, the check word of the altered word is still in the register.
-  shows_early : (g : State) → Sized g → (k m n : ℕ) → Word m → Word n → (ws : List MaskedWord) → All WireWord ws → length ws ≤ 16 →
+  shows_early : (g : State) → Sized g → (k m n : ℕ) → Word m → Word n → (ws : List MaskedWord) → Every WireWord ws → length ws ≤ 16 →
       (all_received f A (received f A g k m) ws).c ≡ (all_received f A (received f A g k n) ws).c → m ≡ n
   shows_early g h k m n wm wn ws l b e =
       let i : ℕ = 16 - length ws in
@@ -179,7 +179,7 @@ module _ (f A : ℕ → ℕ) (onef : OneToOne f) (oneA : OneToOne A) where
 
   -- Seventeen words on, the check word of the next word is in cell 0, and the cipher registers are equal.
   shows_late : (g : State) → Sized g → (k m n : ℕ) → Word m → Word n → (w : MaskedWord) (us vs : List MaskedWord) → length us ≡ 16 →
-      All Sealed (w ∷ us) → All WireWord (w ∷ us) → All WireWord vs →
+      Every Sealed (w ∷ us) → Every WireWord (w ∷ us) → Every WireWord vs →
       (all_received f A (received f A g k m) ((w ∷ us) ++ vs)).c ≡ (all_received f A (received f A g k n) ((w ∷ us) ++ vs)).c → m ≡ n
   unfolding all_received
   shows_late g h k m n wm wn w us vs e16 s l l' e =
@@ -205,7 +205,7 @@ module _ (f A : ℕ → ℕ) (onef : OneToOne f) (oneA : OneToOne A) where
       second g h k m n w.mask w.text wm wn s.0
       (sym (first m wm) ∙ ap (λ (z : List ℕ). get_or z 0 0) cs ∙ first n wn)
 
-  shows : (g : State) → Sized g → (k m n : ℕ) → Word m → Word n → (ws : List MaskedWord) → All Sealed ws → All WireWord ws →
+  shows : (g : State) → Sized g → (k m n : ℕ) → Word m → Word n → (ws : List MaskedWord) → Every Sealed ws → Every WireWord ws →
       (all_received f A (received f A g k m) ws).c ≡ (all_received f A (received f A g k n) ws).c → m ≡ n
   shows g h k m n wm wn [] s l e = shows_early g h k m n wm wn [] tt (omega arith) e
   shows g h k m n wm wn (w ∷ ws) s l e =
@@ -222,7 +222,7 @@ module _ (f A : ℕ → ℕ) (onef : OneToOne f) (oneA : OneToOne A) where
 -- From one state one word is received otherwise than it was sent, under any mask, and then sealed words as they were sent: the check
 -- registers differ, however many words they are.
 pub altered : (f A : ℕ → ℕ) → OneToOne f → OneToOne A → (g : State) → Sized g → (k m n : ℕ) → Word m → Word n → m ≢ n →
-    (ws : List MaskedWord) → All Sealed ws → All WireWord ws →
+    (ws : List MaskedWord) → Every Sealed ws → Every WireWord ws →
     (all_received f A (received f A g k m) ws).c ≢ (all_received f A (received f A g k n) ws).c
 altered f A onef oneA g h k m n wm wn ne ws s l e = ne (shows f A onef oneA g h k m n wm wn ws s l e)
 
@@ -246,7 +246,7 @@ module _ (f : ℕ → ℕ) (one : OneToOne f) where
   unfolding fed
   register_fed r p h w = step_words f one r (ciphertext f r p) h (ciphertext_word f one r p h w)
 
-  all_fed_words : (r ps : List ℕ) → Words r → All Word ps → All Word (fed_words f r ps)
+  all_fed_words : (r ps : List ℕ) → Words r → Every Word ps → Every Word (fed_words f r ps)
   unfolding fed_words
   all_fed_words r [] h a = tt
   all_fed_words r (p ∷ ps) h a = (ciphertext_word f one r p h a.0, all_fed_words (fed f r p) ps (register_fed r p h a.0) a.1)
@@ -263,7 +263,7 @@ fed_back f r (p ∷ ps) (q ∷ qs) e =
     fed_back f (fed f r p) ps qs (ap (drop 1) e ∙ ap (λ (x : ℕ). fed_words f (fed f r x) qs) (sym pq)) in
     λ i. pq i ∷ rest i
 
-reverse_words : (c : List ℕ) → Words c → All Word (reverse c)
+reverse_words : (c : List ℕ) → Words c → Every Word (reverse c)
 reverse_words c h =
     All-from_get_or Word (reverse c) 0
     (λ i l.
@@ -292,7 +292,7 @@ drawn_back f one g h p q e d =
 
 -- Seventeen sealed words or more make the cipher registers equal.
 pub all_received_same : (f A : ℕ → ℕ) → OneToOne f → OneToOne A → (g h : State) → Sized g → Sized h → (ws : List MaskedWord) →
-    All Sealed ws → All WireWord ws → 17 ≤ length ws → (all_received f A g ws).r ≡ (all_received f A h ws).r
+    Every Sealed ws → Every WireWord ws → 17 ≤ length ws → (all_received f A g ws).r ≡ (all_received f A h ws).r
 all_received_same f A onef oneA g h p q ws s l n =
     all_received_sealed_r f A onef oneA g ws s l p ∙
     steps_same f g.r h.r (map (λ w. w.text) ws) p.r_size q.r_size
@@ -301,7 +301,7 @@ all_received_same f A onef oneA g h p q ws s l n =
 
 -- And after seventeen or more of those the tags are drawn from different registers.
 pub altered_drawn : (f A : ℕ → ℕ) → OneToOne f → OneToOne A → (g : State) → Sized g → (k m n : ℕ) → Word m → Word n → m ≢ n →
-    (ws : List MaskedWord) → All Sealed ws → All WireWord ws → 17 ≤ length ws →
+    (ws : List MaskedWord) → Every Sealed ws → Every WireWord ws → 17 ≤ length ws →
     drawn_from f (all_received f A (received f A g k m) ws) ≢ drawn_from f (all_received f A (received f A g k n) ws)
 altered_drawn f A onef oneA g h k m n wm wn ne ws s l long e =
     let gm = received f A g k m in

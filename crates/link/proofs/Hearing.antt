@@ -1,6 +1,6 @@
 -- What holds of the receiver is kept by each call.
 use Rattle.std.proofs.Common.{◌≡◌, ℕ, List, [], ◌∷◌, ◌++◌, map, vec_items, sym, refl, ap, ◌∙◌, subst}
-use Rattle.std.specs.List.{AllByRecursion as All}
+use Rattle.std.specs.List.{AllByRecursion as Every}
 use Rattle.std.proofs.lemmas.List.{map_push}
 use Rattle.std.proofs.ByRecursion.{All-push}
 use Rattle.std.proofs.lemmas.Bool.{cond_both}
@@ -21,7 +21,7 @@ use Rattle.link.proofs.Invariants.{moved, told, start, moves, Starts, Follows, P
 
 module _ (f A : ℕ → ℕ) where
   -- The present stretch and those that are over.
-  pub all_past : (s : Receiving) (ss : List Stretch) → AllStretches f A s ss → All (Past f A) ss
+  pub all_past : (s : Receiving) (ss : List Stretch) → AllStretches f A s ss → Every (Past f A) ss
   all_past s [] h = absurd h
   all_past s (st ∷ ss) h = ((h.0.0, h.0.1, h.0.2, h.0.3), h.1)
 
@@ -107,7 +107,7 @@ module _ (f A : ℕ → ℕ) (onef : OneToOne f) (oneA : OneToOne A) where
         followed = word_noted f A s ss w fits refl h.followed;
         start_fits = h.start_fits;
         words_fit =
-            subst (All WireWord) (sym (map_push heard_wire since.words w))
+            subst (Every WireWord) (sym (map_push heard_wire since.words w))
             (All-push WireWord (map heard_wire since.words) (heard_wire w) h.words_fit fits);
         reached = reached_push f A s.registers (start_of f A since.start) since.words w h.reached;
       }

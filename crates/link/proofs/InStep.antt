@@ -1,6 +1,6 @@
 -- After seventeen sealed words two cipher registers are equal exactly where those wire words are.
 use Rattle.std.proofs.Common.{◌≡◌, ℕ, ◌-◌, ◌≤◌, ◌↔◌, List, [], ◌∷◌, length, take, drop, sym, ap, ◌∙◌, arith}
-use Rattle.std.specs.List.{AllByRecursion as All}
+use Rattle.std.specs.List.{AllByRecursion as Every}
 use Rattle.std.proofs.ByRecursion.{All-take, All-drop}
 use Rattle.std.proofs.lemmas.List.{length-drop, length-map, take-append-drop}
 use Rattle.sss.specs.Cipher.{State, Word, Words, OneToOne}
@@ -10,11 +10,11 @@ use Rattle.link.proofs.Register.{steps, forgets, remembers}
 use Rattle.link.proofs.Received.{Sized, WireWord, all_received, words_from, all_received_sized, all_received_sealed_r, all_received-++}
 
 -- The latest seventeen wire words are words, and seventeen.
-wires_all : (ws : List MaskedWord) → All WireWord ws → All Word (wires ws)
+wires_all : (ws : List MaskedWord) → Every WireWord ws → Every Word (wires ws)
 wires_all [] l = tt
 wires_all (w ∷ ws) l = (l.0, wires_all ws l.1)
 
-words_17 : (ws : List MaskedWord) → All WireWord ws → Words (wires (latest_17 ws))
+words_17 : (ws : List MaskedWord) → Every WireWord ws → Words (wires (latest_17 ws))
 words_17 ws l = words_from (wires (latest_17 ws)) (wires_all (latest_17 ws) (All-drop WireWord (length ws - 17) ws l))
 
 length_17 : (ws : List MaskedWord) → SeventeenSealed ws → length (wires (latest_17 ws)) ≡ 17
@@ -24,7 +24,7 @@ length_17 ws s =
 
 module _ (f A : ℕ → ℕ) (onef : OneToOne f) (oneA : OneToOne A) where
   -- The cipher register is seventeen steps away from the one that it was before them.
-  after_17 : (g g₀ : State) (ws : List MaskedWord) → Sized g₀ → All WireWord ws → g ≡ all_received f A g₀ ws → SeventeenSealed ws →
+  after_17 : (g g₀ : State) (ws : List MaskedWord) → Sized g₀ → Every WireWord ws → g ≡ all_received f A g₀ ws → SeventeenSealed ws →
       (r : List ℕ) × (length r ≡ 17) × (g.r ≡ steps f r (wires (latest_17 ws)))
   after_17 g g₀ ws k l e s =
       let n : ℕ = length ws - 17 in
@@ -38,7 +38,7 @@ module _ (f A : ℕ → ℕ) (onef : OneToOne f) (oneA : OneToOne A) where
       )
 
   -- They remember those words, and forget all before them.
-  pub in_step : (g h g₀ h₀ : State) (us ws : List MaskedWord) → Sized g₀ → Sized h₀ → All WireWord us → All WireWord ws →
+  pub in_step : (g h g₀ h₀ : State) (us ws : List MaskedWord) → Sized g₀ → Sized h₀ → Every WireWord us → Every WireWord ws →
       g ≡ all_received f A g₀ us → h ≡ all_received f A h₀ ws → SeventeenSealed us → SeventeenSealed ws →
       (g.r ≡ h.r) ↔ (wires (latest_17 us) ≡ wires (latest_17 ws))
   in_step g h g₀ h₀ us ws kg kh lu lw eg eh su sw =

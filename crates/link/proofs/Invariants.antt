@@ -1,6 +1,6 @@
 -- What holds of both ends after any calls: how their registers, messages, stretches and states hang together.
 use Rattle.std.proofs.Common.{◌≡◌, ℕ, ◌<◌, List, [], ◌∷◌, ◌++◌, map, Some, None, Option}
-use Rattle.std.specs.List.{AllByRecursion as All}
+use Rattle.std.specs.List.{AllByRecursion as Every}
 use Rattle.sss.specs.Cipher.{State, Word, begun, plain_word, wire_word}
 use Rattle.link.specs.Receiving.{decided, answer_of}
 use Rattle.link.specs.Ends.{Sealing, ready, in_message, registers_of, Receiving, Ends, new_ends, made, CallFits}
@@ -15,7 +15,7 @@ use Rattle.link.proofs.Received.{Sized, WireWord, received, all_received}
 
 -- Bytes, and the nonce of a reset.
 abbrev pub Bytes : List ℕ → Type 0
-Bytes bs = All (λ b. b < 256) bs
+Bytes bs = Every (λ b. b < 256) bs
 
 abbrev pub StartFits : Option (List ℕ) → Type 0
 StartFits None = Unit {0}
@@ -56,7 +56,7 @@ module _ (f A : ℕ → ℕ) where
 
   pub record SealerGood (s : Sealing) (ms : List Message) (since : Since Sent) : Type 0 where
     pub sized : Sized (registers_of s)
-    pub sealed : All SealedMessage ms
+    pub sealed : Every SealedMessage ms
     pub start_fits : StartFits since.start
     pub since_sealed : SealedFrom (start_of f A since.start) since.words
     pub reached : registers_of s ≡ all_received f A (start_of f A since.start) (map wire_of since.words)
@@ -86,13 +86,13 @@ module _ (f A : ℕ → ℕ) where
 
   abbrev pub AllStretches : Receiving → List Stretch → Type 0
   AllStretches s [] = ⊥
-  AllStretches s (st ∷ ss) = Present s st × All Past ss
+  AllStretches s (st ∷ ss) = Present s st × Every Past ss
 
   pub record ReceiverGood (s : Receiving) (ss : List Stretch) (since : Since Heard) : Type 0 where
     pub sized : Sized s.registers
     pub followed : AllStretches s ss
     pub start_fits : StartFits since.start
-    pub words_fit : All WireWord (map heard_wire since.words)
+    pub words_fit : Every WireWord (map heard_wire since.words)
     pub reached : s.registers ≡ all_received f A (start_of f A since.start) (map heard_wire since.words)
 
   -- Both ends after any calls, with their log.

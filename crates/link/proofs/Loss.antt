@@ -1,6 +1,6 @@
 -- The law of a loss.
 use Rattle.std.proofs.Common.{◌≡◌, ℕ, ◌+◌, ltb, List, [], ◌∷◌, ◌++◌, map, Some, None, vec_items, Option, sym, refl, ap, ◌∙◌, subst, arith}
-use Rattle.std.specs.List.{AllByRecursion as All}
+use Rattle.std.specs.List.{AllByRecursion as Every}
 use Rattle.std.proofs.ByRecursion.{all-has, All-weaker}
 use Rattle.std.proofs.lemmas.Bool.{cond_both}
 use Rattle.sss.specs.Cipher.{State, OneToOne, begun, tag, taken, wire_word, drawn_from, sealed_message, message_tag}
@@ -113,7 +113,7 @@ module _ (f A : ℕ → ℕ) (onef : OneToOne f) (oneA : OneToOne A) where
         message = o.0.0;
         earlier = o.0.1;
         latest_is = o.0.2;
-        sealed = (subst (All (SealedMessage f A)) o.0.2 g.sealed).0;
+        sealed = (subst (Every (SealedMessage f A)) o.0.2 g.sealed).0;
         registers =
             sym (sealer_holds r) ∙ g.reached ∙
             ap (λ (z : Since Sent). all_received f A (start_of f A z.start) (map wire_of z.words)) o.0.3;
@@ -162,8 +162,8 @@ module _ (f A : ℕ → ℕ) (onef : OneToOne f) (oneA : OneToOne A) where
   -- The two ends of an unbroken message come from one begin.
   record FromOne (u-message : Message) (sealer receiver : State) (heard : List Heard) : Type 0 where
     sized : Sized (begun f A u-message.nonce)
-    sent_fit : All WireWord (map wire_of u-message.words)
-    heard_fit : All WireWord (map heard_wire heard)
+    sent_fit : Every WireWord (map wire_of u-message.words)
+    heard_fit : Every WireWord (map heard_wire heard)
     sealer_is : sealer ≡ all_received f A (begun f A u-message.nonce) (map wire_of u-message.words)
     receiver_is : receiver ≡ all_received f A (begun f A u-message.nonce) (map heard_wire heard)
 
@@ -193,8 +193,8 @@ module _ (f A : ℕ → ℕ) (onef : OneToOne f) (oneA : OneToOne A) where
   unfolding sealed_message message_tag sealer_registers
   law {s} {log} run =
       let g = good f A onef oneA run in
-      let past : All (Past f A) (stretches log) = all_past f A s.receiver (stretches log) g.receiver.followed in
-      let sealed : All (SealedMessage f A) (messages log) = g.sealer.sealed in
+      let past : Every (Past f A) (stretches log) = all_past f A s.receiver (stretches log) g.receiver.followed in
+      let sealed : Every (SealedMessage f A) (messages log) = g.sealer.sealed in
       let from : Option (List ℕ) → State = λ o. start_of f A o in
       record {
         of_sealer = sealer_holds run;

@@ -2,7 +2,7 @@
 use Rattle.std.proofs.Common.{◌≡◌, ℕ, suc, ◌+◌, ◌<◌, ◌≤◌, List, [], ◌∷◌, length, IfErr, Ok, Err, vec_len, vec_capacity, fold, Result, Vec, sym, ap, ◌∙◌, subst, inl, inr, arith}
 use Rattle.std.specs.declared.alloc.Global.{Global}
 use Rattle.std.proofs.lemmas.Bool.{cases_lt}
-use Rattle.std.specs.List.{AllByRecursion as All}
+use Rattle.std.specs.List.{AllByRecursion as Every}
 use Rattle.sss.specs.Cipher.{OneToOne}
 use Rattle.link.specs.Ends.{registers_of, Ends, CallFits, history, new_ends, one_call}
 use Rattle.link.specs.Law.{Law}
@@ -58,15 +58,15 @@ pub refused_by : {X Y : Type 0} {P : Type 0} (r : Result X Y) → P → IfErr r 
 refused_by (Ok x) p = tt
 refused_by (Err e) p = p
 
-pub fits_more : (rest rest' : List Call) (x : Call) → rest ≡ x ∷ rest' → CallFits x → All CallFits rest' → All CallFits rest
-fits_more rest rest' x first one more = subst (All CallFits) (sym first) (one, more)
+pub fits_more : (rest rest' : List Call) (x : Call) → rest ≡ x ∷ rest' → CallFits x → Every CallFits rest' → Every CallFits rest
+fits_more rest rest' x first one more = subst (Every CallFits) (sym first) (one, more)
 
-pub fits_none : (rest : List Call) → length rest ≡ 0 → All CallFits rest
+pub fits_none : (rest : List Call) → length rest ≡ 0 → Every CallFits rest
 fits_none [] none = tt
 fits_none (x ∷ xs) none = absurd (omega arith)
 
 -- The law holds of a history with one function and one coefficient.
-pub history_law : (f A f' A' : ℕ → ℕ) → OneToOne f → OneToOne A → f ≡ f' → A ≡ A' → (calls : List Call) → All CallFits calls →
+pub history_law : (f A f' A' : ℕ → ℕ) → OneToOne f → OneToOne A → f ≡ f' → A ≡ A' → (calls : List Call) → Every CallFits calls →
     (h : Ends × List Entry) → h ≡ history f A f' A' calls → Law f A h.1 (registers_of h.0.sealer) h.0.receiver.registers
 history_law f A f' A' onef oneA same-f same_A calls fits h is =
     let one : history f A f A calls ≡ h =

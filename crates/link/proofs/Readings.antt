@@ -1,7 +1,7 @@
 -- Where a stretch is part of a message, no reading is false; and a message that is received as it was sent is read as it was given.
 use Rattle.std.proofs.Common.{◌≡◌, ℕ, suc, ◌+◌, Bool, cond, eqb, List, [], ◌∷◌, ◌++◌, map, length, get_or, drop, sym, refl, ap, ◌∙◌, subst, inl, inr, arith, length-append}
 use lib.Bits.{bit_and, bit_xor}
-use Rattle.std.specs.List.{AllByRecursion as All}
+use Rattle.std.specs.List.{AllByRecursion as Every}
 use Rattle.std.proofs.ByRecursion.{all-has}
 use Rattle.std.proofs.lemmas.Bool.{cases_Bool, cond_both, eq-eqb, eqb-true}
 use Rattle.sss.specs.Cipher.{State, Word, OneToOne, begun, keystream, masked, plain_word, step, wire_word}
@@ -49,11 +49,11 @@ module _ (f A : ℕ → ℕ) where
   not_false (Lost n) g h k p e = refl
 
   -- What was sent and what was received are wire words.
-  pub sealed_wire_words : (g : State) (ws : List Sent) → SealedFrom f A g ws → All WireWord (map wire_of ws)
+  pub sealed_wire_words : (g : State) (ws : List Sent) → SealedFrom f A g ws → Every WireWord (map wire_of ws)
   sealed_wire_words g [] t = tt
   sealed_wire_words g (w ∷ ws) t = (t.1, sealed_wire_words (received f A g w.mask w.wire) ws t.2)
 
-  pub follows_wire_words : (s : Reception) (g : State) (ws : List Heard) → Follows f A s g ws → All WireWord (map heard_wire ws)
+  pub follows_wire_words : (s : Reception) (g : State) (ws : List Heard) → Follows f A s g ws → Every WireWord (map heard_wire ws)
   follows_wire_words s g [] t = tt
   follows_wire_words s g (w ∷ ws) t = (t.1, follows_wire_words (moved s w.mask) (received f A g w.mask w.wire) ws t.2)
 
@@ -140,7 +140,7 @@ module _ (f A : ℕ → ℕ) (onef : OneToOne f) (oneA : OneToOne A) where
   along_first finish g b front nonce kg kh s e h = lost_along f A g _ kg kh
 
   -- In a stretch that is placed in a message of the sealer no reading is false.
-  pub placed_no_false : (log : List Entry) (s : Stretch) → Past f A s → All (SealedMessage f A) (messages log) → (p : Placed log s) →
+  pub placed_no_false : (log : List Entry) (s : Stretch) → Past f A s → Every (SealedMessage f A) (messages log) → (p : Placed log s) →
       false_readings s.words p.those ≡ 0
   placed_no_false log s (g, kg, st, fo) sealed p =
       let m : Message = p.message in
@@ -175,18 +175,18 @@ right (x ∷ xs) (y ∷ ys) e z =
 
 module _ (f A : ℕ → ℕ) (onef : OneToOne f) (oneA : OneToOne A) where
   -- And each reading is true.
-  pub placed_true : (log : List Entry) (s : Stretch) → Past f A s → All (SealedMessage f A) (messages log) → (p : Placed log s) →
+  pub placed_true : (log : List Entry) (s : Stretch) → Past f A s → Every (SealedMessage f A) (messages log) → (p : Placed log s) →
       TrueReadings s.words p.those
   placed_true log s past sealed p = right s.words p.those p.as_sent (placed_no_false f A onef oneA log s past sealed p)
 
-  one_no_false : (log : List Entry) (s : Stretch) → Past f A s → All (SealedMessage f A) (messages log) → (a : Assigned log s) →
+  one_no_false : (log : List Entry) (s : Stretch) → Past f A s → Every (SealedMessage f A) (messages log) → (a : Assigned log s) →
       false_in log s a ≡ 0
   one_no_false log s past sealed (inl empty) = refl
   one_no_false log s past sealed (inr p) = placed_no_false f A onef oneA log s past sealed p
 
   -- Where all stretches are assigned, no reading is false.
-  pub assigned_no_false : (log : List Entry) (ss : List Stretch) → All (Past f A) ss → All (SealedMessage f A) (messages log) →
-      (a : All (Assigned log) ss) → false_in_all log ss a ≡ 0
+  pub assigned_no_false : (log : List Entry) (ss : List Stretch) → Every (Past f A) ss → Every (SealedMessage f A) (messages log) →
+      (a : Every (Assigned log) ss) → false_in_all log ss a ≡ 0
   assigned_no_false log [] past sealed a = refl
   assigned_no_false log (s ∷ ss) past sealed a =
       let one : false_in log s a.0 ≡ 0 = one_no_false log s past.0 sealed a.0 in

@@ -1,7 +1,7 @@
 -- Wire words as the receiving side takes them, and what holds of both registers as they are taken.
 use Rattle.std.proofs.Common.{◌≡◌, ℕ, zero, suc, ◌-◌, ◌<◌, List, [], ◌∷◌, ◌++◌, map, length, get_or, drop, set, replicate, refl, ap, ◌∙◌, lt_of_le_of_lt, arith}
 use lib.Bits.{bit_and, bit_xor, and_le_r, and_comm, and_mask, and_zero_l, xor_zero_r}
-use Rattle.std.specs.List.{AllByRecursion as All}
+use Rattle.std.specs.List.{AllByRecursion as Every}
 use Rattle.std.proofs.ByRecursion.{All-set, All-push, All-drop}
 use Rattle.std.proofs.lemmas.List.{length_push, length-drop}
 use Rattle.sss.specs.Cipher.{Word, Words, State, OneToOne, plus, rot8, complement, words_of, step, check_step, keystream, ciphertext, masked, mactext}
@@ -35,12 +35,12 @@ pub record Sized (g : State) : Type 0 where
   pub c_words : Words g.c
 
 -- Words by place and words by element.
-pub words_from : (xs : List ℕ) → All Word xs → Words xs
+pub words_from : (xs : List ℕ) → Every Word xs → Words xs
 words_from [] h i = omega arith
 words_from (x ∷ xs) h zero = h.0
 words_from (x ∷ xs) h (suc i) = words_from xs h.1 i
 
-pub all_from : (xs : List ℕ) → Words xs → All Word xs
+pub all_from : (xs : List ℕ) → Words xs → Every Word xs
 all_from [] h = tt
 all_from (x ∷ xs) h = (h 0, all_from xs (λ i. h (suc i)))
 
@@ -66,13 +66,13 @@ module _ (f : ℕ → ℕ) (one : OneToOne f) where
   unfolding step
   step_words r c p q =
       let r₁ : List ℕ = drop 1 r ++ c ∷ [] in
-      let w₁ : All Word r₁ = All-push Word (drop 1 r) c (All-drop Word 1 r (all_from r p)) q in
+      let w₁ : Every Word r₁ = All-push Word (drop 1 r) c (All-drop Word 1 r (all_from r p)) q in
       let x₁ : ℕ = plus (get_or r₁ 14 0) (f (rot8 c)) in
       let r₂ : List ℕ = set r₁ 14 x₁ in
-      let w₂ : All Word r₂ = All-set Word r₁ 14 x₁ (plus_word (get_or r₁ 14 0) (f (rot8 c))) w₁ in
+      let w₂ : Every Word r₂ = All-set Word r₁ 14 x₁ (plus_word (get_or r₁ 14 0) (f (rot8 c))) w₁ in
       let x₂ : ℕ = f (get_or r₂ 12 0) in
       let r₃ : List ℕ = set r₂ 12 x₂ in
-      let w₃ : All Word r₃ = All-set Word r₂ 12 x₂ (one.word (get_or r₂ 12 0) (words_from r₂ w₂ 12)) w₂ in
+      let w₃ : Every Word r₃ = All-set Word r₂ 12 x₂ (one.word (get_or r₂ 12 0) (words_from r₂ w₂ 12)) w₂ in
       let x₃ : ℕ = rot8 (get_or r₃ 1 0) in
       words_from (set r₃ 1 x₃) (All-set Word r₃ 1 x₃ (rotate_word (get_or r₃ 1 0) (words_from r₃ w₃ 1)) w₃)
 
@@ -108,7 +108,7 @@ unfolding zeroed
 zeroed_sized = record { r_size = refl; c_size = refl; r_words = zeros_words 17; c_words = zeros_words 17 }
 
 -- Two bytes make a word.
-words_of_words : (bs : List ℕ) → All (λ b. b < 256) bs → All Word (words_of bs)
+words_of_words : (bs : List ℕ) → Every (λ b. b < 256) bs → Every Word (words_of bs)
 words_of_words [] h = tt
 words_of_words (a ∷ []) h = tt
 words_of_words (a ∷ b ∷ bs) h = (omega (arith, h.0, h.1.0), words_of_words bs h.1.1)
@@ -140,13 +140,13 @@ module _ (f A : ℕ → ℕ) (onef : OneToOne f) (oneA : OneToOne A) where
   unfolding received
   received_sized g mask wire h w = taken_sized g mask (plain_word f g mask wire) h (plain_is_word g mask wire h w)
 
-  pub all_received_sized : (g : State) (ws : List MaskedWord) → Sized g → All WireWord ws → Sized (all_received f A g ws)
+  pub all_received_sized : (g : State) (ws : List MaskedWord) → Sized g → Every WireWord ws → Sized (all_received f A g ws)
   unfolding all_received
   all_received_sized g [] h l = h
   all_received_sized g (w ∷ ws) h l =
       all_received_sized (received f A g w.mask w.text) ws (received_sized g w.mask w.text h l.0) l.1
 
-  nonces_sized : (g : State) (ns : List ℕ) → Sized g → All Word ns → Sized (nonces_taken f A g ns)
+  nonces_sized : (g : State) (ns : List ℕ) → Sized g → Every Word ns → Sized (nonces_taken f A g ns)
   unfolding nonces_taken nonce_taken
   nonces_sized g [] h a = h
   nonces_sized g (n ∷ ns) h a =
@@ -166,7 +166,7 @@ module _ (f A : ℕ → ℕ) (onef : OneToOne f) (oneA : OneToOne A) where
   zeros_sized (suc n) g h = zeros_sized n (taken f A g 0 0) (taken_sized g 0 0 h (omega arith))
 
   -- The registers as a message begins.
-  pub begun_sized : (nonce : List ℕ) → All (λ b. b < 256) nonce → Sized (begun f A nonce)
+  pub begun_sized : (nonce : List ℕ) → Every (λ b. b < 256) nonce → Sized (begun f A nonce)
   unfolding begun
   begun_sized nonce a =
       zeros_sized 17 (nonces_taken f A zeroed (words_of nonce)) (nonces_sized zeroed (words_of nonce) zeroed_sized (words_of_words nonce a))
@@ -194,7 +194,7 @@ module _ (f A : ℕ → ℕ) (onef : OneToOne f) (oneA : OneToOne A) where
       ap (bit_xor wire) (and_all v (keystream_word f onef g.r h.r_words)))
 
   -- Sealed words step the cipher register by themselves.
-  pub all_received_sealed_r : (g : State) (ws : List MaskedWord) → All Sealed ws → All WireWord ws → Sized g →
+  pub all_received_sealed_r : (g : State) (ws : List MaskedWord) → Every Sealed ws → Every WireWord ws → Sized g →
       (all_received f A g ws).r ≡ steps f g.r (map (λ w. w.text) ws)
   unfolding all_received steps
   all_received_sealed_r g [] s l h = refl

@@ -1,6 +1,6 @@
 -- What holds of both ends holds after any calls, and each beginning of a log is the log of a run.
 use Rattle.std.proofs.Common.{◌≡◌, ℕ, ◌⊎◌, List, [], ◌∷◌, ◌++◌, None, fold, refl, subst, inl, inr, ⊎_elim, arith}
-use Rattle.std.specs.List.{AllByRecursion as All}
+use Rattle.std.specs.List.{AllByRecursion as Every}
 use Rattle.std.proofs.lemmas.List.Sums.{fold_push}
 use Rattle.sss.specs.Cipher.{OneToOne}
 use Rattle.link.specs.Ends.{Ends, new_ends, made, one_call, history, CallFits}
@@ -79,12 +79,12 @@ module _ (f A : ℕ → ℕ) where
   good onef oneA (more {s} {log} r x fits) = good_made onef oneA s log x fits (good onef oneA r)
 
   -- A list of calls is a run.
-  run_on : (h : Ends × List Entry) (calls : List Call) → All CallFits calls → Run f A h.0 h.1 →
+  run_on : (h : Ends × List Entry) (calls : List Call) → Every CallFits calls → Run f A h.0 h.1 →
       (let t = fold (one_call f A f A) h calls in Run f A t.0 t.1)
   run_on h [] fits r = r
   run_on h (x ∷ calls) fits r = run_on (one_call f A f A h x) calls fits.1 (more r x fits.0)
 
-  pub history_run : (calls : List Call) → All CallFits calls → Run f A (history f A f A calls).0 (history f A f A calls).1
+  pub history_run : (calls : List Call) → Every CallFits calls → Run f A (history f A f A calls).0 (history f A f A calls).1
   unfolding history
   history_run calls fits = run_on (new_ends, []) calls fits none
 

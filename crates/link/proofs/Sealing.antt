@@ -1,6 +1,6 @@
 -- What holds of the sealer is kept by each call, and what the words that it sealed do to the registers.
 use Rattle.std.proofs.Common.{◌≡◌, ℕ, zero, suc, ◌+◌, ◌/◌, ◌<◌, ltb, List, [], ◌∷◌, ◌++◌, map, sym, refl, ap, ◌∙◌, subst, arith}
-use Rattle.std.specs.List.{AllByRecursion as All}
+use Rattle.std.specs.List.{AllByRecursion as Every}
 use Rattle.std.proofs.lemmas.List.{map_push}
 use Rattle.std.proofs.ByRecursion.{All-append}
 use Rattle.std.proofs.lemmas.Bool.{cond_both}
@@ -72,11 +72,11 @@ module _ (f A : ℕ → ℕ) (onef : OneToOne f) (oneA : OneToOne A) where
       let sealed-too : SealedFrom f A from (since.words ++ w ∷ []) =
       sealed_push f A from since.words w h.since_sealed (ap (λ (x : State). wire_word f x mask p) h.reached)
       (wire_is_word f A onef oneA g mask p h.sized fits) in
-      let before : All (SealedMessage f A) (m ∷ h.is_open.1) = subst (All (SealedMessage f A)) h.is_open.2 h.sealed in
+      let before : Every (SealedMessage f A) (m ∷ h.is_open.1) = subst (Every (SealedMessage f A)) h.is_open.2 h.sealed in
       record {
         sized = taken_sized f A onef oneA g mask p h.sized fits;
         sealed =
-            subst (λ (l : List Message). All (SealedMessage f A) (sent_too w l)) (sym h.is_open.2) (
+            subst (λ (l : List Message). Every (SealedMessage f A) (sent_too w l)) (sym h.is_open.2) (
               (
                 before.0.0,
                 subst (λ (s : Since Sent). SealedFrom f A (start_of f A s.start) (s.words ++ w ∷ [])) h.is_open.3 sealed-too,

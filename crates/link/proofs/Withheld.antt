@@ -1,6 +1,6 @@
 -- Which words of a stretch are withheld.
 use Rattle.std.proofs.Common.{◌≡◌, ℕ, ◌+◌, ◌<◌, ◌≤◌, eqb, ◌≢◌, ◌⊎◌, List, [], ◌∷◌, ◌++◌, length, sym, refl, ap, ◌∙◌, subst, inl, inr, append_assoc, append-nil, arith, length-append}
-use Rattle.std.specs.List.{AllByRecursion as All}
+use Rattle.std.specs.List.{AllByRecursion as Every}
 use Rattle.std.proofs.lemmas.List.{length_push, same_from_push}
 use Rattle.std.proofs.ByRecursion.{All-push, All-weaker}
 use Rattle.std.proofs.lemmas.Bool.{cond_both, eqb-true, eqb-false}
@@ -22,12 +22,12 @@ ends (x ∷ c) = elim (ends c) [
 ]
 
 -- Sealed words at the end of some words are no more than their row: more would reach the word before the row, which is not sealed.
-longest : (a b d t : List Heard) → a ++ b ≡ d ++ t → length t < length b → All SealedHeard b →
+longest : (a b d t : List Heard) → a ++ b ≡ d ++ t → length t < length b → Every SealedHeard b →
     ((c : List Heard) (y : Heard) → d ≡ c ++ y ∷ [] → y.mask ≢ 65535) → ⊥
 longest a b [] t e l s n = omega (arith, ap length e, length-append a b)
-longest [] b (y ∷ []) t e l s n = n [] y refl (subst (All SealedHeard) e s).0
+longest [] b (y ∷ []) t e l s n = n [] y refl (subst (Every SealedHeard) e s).0
 longest [] b (y ∷ z ∷ d) t e l s n =
-    longest [] (z ∷ d ++ t) (z ∷ d) t refl (omega (arith, length-append d t)) (subst (All SealedHeard) e s).1
+    longest [] (z ∷ d ++ t) (z ∷ d) t refl (omega (arith, length-append d t)) (subst (Every SealedHeard) e s).1
     (λ c v p. n (y ∷ c) v (ap (λ (w : List Heard). y ∷ w) p))
 longest (x ∷ a) b (y ∷ d) t e l s n = longest a b d t (cc) l s (λ c v p. n (y ∷ c) v (ap (λ (w : List Heard). y ∷ w) p))
 
@@ -98,7 +98,7 @@ Decided front w = (IsWithheld front w × ¬ RowOf17 front) ⊎ (HandedOut w × R
 
 module _ (f A : ℕ → ℕ) where
   -- A whole receiver hands out every word.
-  whole_hands : (g : State) (ws : List Heard) → Follows f A Whole g ws → All HandedOut ws
+  whole_hands : (g : State) (ws : List Heard) → Follows f A Whole g ws → Every HandedOut ws
   whole_hands g [] h = tt
   whole_hands g (w ∷ ws) h = ((_, h.0), whole_hands (received f A g w.mask w.wire) ws h.2)
 
@@ -138,5 +138,5 @@ module _ (f A : ℕ → ℕ) where
         (subst (Follows f A (start st.mark) g) e h));
   }
 
-  pub all_withholds : (ss : List Stretch) → All (Past f A) ss → All Withholds ss
+  pub all_withholds : (ss : List Stretch) → Every (Past f A) ss → Every Withholds ss
   all_withholds ss h = All-weaker (Past f A) Withholds withholds ss h

@@ -1,6 +1,6 @@
 -- The two ends of a link by what their calls leave: where each stands, and its registers.
 use Rattle.std.specs.Prelude.{ℕ, ◌+◌, ◌%◌, ◌<◌, Bool, cond, ◌&&◌, List, [], ◌∷◌, ◌++◌, length, vec_items, fold, ◌==◌, nat_le, nat_lt}
-use Rattle.std.specs.List.{AllByRecursion as All}
+use Rattle.std.specs.List.{AllByRecursion as Every}
 use Rattle.sss.specs.Cipher.{State, Word, begun, plain_word, tag, taken, wire_word, zeroed}
 use Rattle.sss.specs.Registers.{state}
 use Rattle.sss.specs.declared.Fault.TheVariants.{Nonce, Full}
@@ -115,7 +115,7 @@ made f A f' A' s (OnReceiver x) =
 abbrev pub one_call : (f A f' A' : ℕ → ℕ) → Ends × List Entry → Call → Ends × List Entry
 one_call f A f' A' h x = let o = made f A f' A' h.0 x in (o.0, h.1 ++ o.1 ∷ [])
 
--- All calls of a list, in order, from new ends and an empty log.
+-- Every calls of a list, in order, from new ends and an empty log.
 unfoldable pub history : (f A f' A' : ℕ → ℕ) → List Call → Ends × List Entry
 history f A f' A' calls = fold (one_call f A f' A') (new_ends, []) calls
 
@@ -128,7 +128,7 @@ SealerCallFits Abandon = Unit {0}
 
 -- Nonce bytes are bytes, wire words are words.
 abbrev pub ReceiverCallFits : ReceiverCall → Type 0
-ReceiverCallFits (Hear nonce) = All (λ b. b < 256) (vec_items nonce)
+ReceiverCallFits (Hear nonce) = Every (λ b. b < 256) (vec_items nonce)
 ReceiverCallFits (Take mask m) = Word m
 ReceiverCallFits Break = Unit {0}
 ReceiverCallFits (End t) = Unit {0}

@@ -1,8 +1,8 @@
 -- THE LAW OF A LOSS. What holds of every run of a sealer and a receiver with one key and one coefficient, whatever calls were made on them
--- and whatever became of the words between them. All of it is read off the log: f is the keyed function, A the coefficient.
+-- and whatever became of the words between them. Every of it is read off the log: f is the keyed function, A the coefficient.
 use Rattle.std.specs.Prelude.{◌≡◌, ℕ, ◌+◌, ◌-◌, ◌≤◌, cond, ◌≢◌, ◌⊎◌, ◌↔◌, List, [], ◌∷◌, ◌++◌, map, length, drop, ◌==◌}
 use Rattle.std.proofs.Common.{inl, inr}
-use Rattle.std.specs.List.{ContainsAt as Has, AllByRecursion as All}
+use Rattle.std.specs.List.{ContainsAt as Has, AllByRecursion as Every}
 use Rattle.sss.specs.Cipher.{State, drawn_from, sealed_message, opened_message, message_tag}
 use Rattle.sss.specs.declared.message.MaskedWord.{MaskedWord}
 use Rattle.link.specs.Log.{Sent, Message, messages, begin, Heard, Stretch, stretches, sent_since, heard_since, plain_of, wire_of, heard_wire, sealer_registers, receiver_registers}
@@ -26,7 +26,7 @@ latest_17 ws = drop (length ws - 17) ws
 -- There are seventeen, and they are sealed.
 pub record SeventeenSealed (ws : List MaskedWord) : Type 0 where
   pub enough : 17 ≤ length ws
-  pub sealed : All SealedWord (latest_17 ws)
+  pub sealed : Every SealedWord (latest_17 ws)
 
 -- The wire words alone.
 abbrev pub wires : List MaskedWord → List ℕ
@@ -81,7 +81,7 @@ false_in log s (inl empty) = 0
 false_in log s (inr p) = false_readings s.words p.those
 
 -- The false readings of all assigned stretches together.
-abbrev pub false_in_all : (log : List Entry) (ss : List Stretch) → All (Assigned log) ss → ℕ
+abbrev pub false_in_all : (log : List Entry) (ss : List Stretch) → Every (Assigned log) ss → ℕ
 false_in_all log [] a = 0
 false_in_all log (s ∷ ss) a = false_in log s a.0 + false_in_all log ss a.1
 
@@ -91,7 +91,7 @@ SealedHeard w = w.mask ≡ 65535
 
 -- Seventeen sealed words in a row, somewhere among some words.
 abbrev pub RowOf17 : List Heard → Type 0
-RowOf17 ws = (a : List Heard) × (b : List Heard) × (c : List Heard) × (ws ≡ a ++ (b ++ c)) × (length b ≡ 17) × All SealedHeard b
+RowOf17 ws = (a : List Heard) × (b : List Heard) × (c : List Heard) × (ws ≡ a ++ (b ++ c)) × (length b ≡ 17) × Every SealedHeard b
 
 -- The latest n of some words are sealed, and the one before them, if there is one, is not.
 pub record RowIs (n : ℕ) (ws : List Heard) : Type 0 where
@@ -99,7 +99,7 @@ pub record RowIs (n : ℕ) (ws : List Heard) : Type 0 where
   pub those : List Heard
   pub parts : ws ≡ before ++ those
   pub long : length those ≡ n
-  pub sealed : All SealedHeard those
+  pub sealed : Every SealedHeard those
   pub no_more : (c : List Heard) (y : Heard) → before ≡ c ++ y ∷ [] → y.mask ≢ 65535
 
 -- A word is withheld, and the answer carries the row up to and with the word itself.
@@ -113,7 +113,7 @@ HandedOut w = (p : ℕ) × (w.answer ≡ Reading p)
 -- Which words of a stretch are withheld: after a begin none; after any other mark a word is withheld exactly where no seventeen sealed words
 -- in a row stand before it in the stretch, so the seventeenth is the last.
 pub record Withholds (s : Stretch) : Type 0 where
-  pub after_begin : (nonce : List ℕ) → s.mark ≡ begin nonce → All HandedOut s.words
+  pub after_begin : (nonce : List ℕ) → s.mark ≡ begin nonce → Every HandedOut s.words
   pub after_other : ((nonce : List ℕ) → s.mark ≢ begin nonce) → (front : List Heard) (w : Heard) (back : List Heard) →
       s.words ≡ front ++ w ∷ back → (IsWithheld front w × ¬ RowOf17 front) ⊎ (HandedOut w × RowOf17 front)
 
@@ -128,7 +128,7 @@ pub record OneAltered (sent heard : List MaskedWord) : Type 0 where
   pub sent_is : sent ≡ front ++ record { mask = mask; text = was } ∷ later
   pub heard_is : heard ≡ front ++ record { mask = mask; text = became } ∷ later
   pub altered : was ≢ became
-  pub later_sealed : All SealedWord later
+  pub later_sealed : Every SealedWord later
 
 -- Both ends finished a message: what the log has before the sealer's finish and before the receiver's, the message, and the stretch that the
 -- receiver ended. The message is unbroken: that stretch came after a begin with the message's nonce, so no break and no other begin came
@@ -188,9 +188,9 @@ pub record Law (f A : ℕ → ℕ) (log : List Entry) (sealer receiver : State) 
   -- 3. In a stretch that is placed in a message every reading is true; in a run whose stretches are all assigned the number of false readings
   -- is zero.
   pub true_readings : (s : Stretch) → Has (stretches log) s → (p : Placed log s) → TrueReadings s.words p.those
-  pub no_false_reading : (a : All (Assigned log) (stretches log)) → false_in_all log (stretches log) a ≡ 0
+  pub no_false_reading : (a : Every (Assigned log) (stretches log)) → false_in_all log (stretches log) a ≡ 0
   -- 4. Exactly these words are withheld, and each answer carries its row.
-  pub withheld : All Withholds (stretches log)
+  pub withheld : Every Withholds (stretches log)
   -- 5. One altered word shows in the check registers just before closing, and with seventeen or more later words in the registers that the
   -- tags are drawn from.
   pub altered_check : (u : Unbroken log) → OneAltered (map wire_of u.message.words) (map heard_wire u.stretch.words) →
@@ -200,7 +200,7 @@ pub record Law (f A : ℕ → ℕ) (log : List Entry) (sealer receiver : State) 
       drawn_from f (sealer_registers f A u.sealer_before) ≢ drawn_from f (receiver_registers f A u.receiver_before)
   -- 6. Wire words and tags are those of the published cipher; a message that is received as it was sent is read as it was given; and each
   -- verdict is the one that the tag deserves.
-  pub published : All (Published f A) (messages log)
+  pub published : Every (Published f A) (messages log)
   pub published_tags : (before later : List Entry) (tag : List ℕ) → log ≡ before ++ OfSealer (Finished tag) ∷ later → PublishedTag f A before tag
   pub comes_back : (s : Stretch) → Has (stretches log) s → (m : Message) → Has (messages log) m → s.mark ≡ begin m.nonce →
       map heard_wire s.words ≡ map wire_of m.words → map (λ w. w.answer) s.words ≡ map (λ w. Reading w.plain) m.words

@@ -1,6 +1,6 @@
 //! The calls of a [`Receiver`].
 ghost use Rattle.std.specs.Prelude.{◌≡◌, ◌<◌};
-ghost use Rattle.std.specs.List.{AllByRecursion as All};
+ghost use Rattle.std.specs.List.{AllByRecursion as Every};
 ghost use Rattle.sss.specs.Cipher.{zeroed};
 ghost use Rattle.sss.specs.Registers.{state};
 ghost use Rattle.link.specs.Hearing.{Begins, drawn, reading, stepped};
@@ -29,7 +29,7 @@ impl<K: KeyedFunction, C: Coefficient> Receiver<K, C> {
 
     /// Begins a message: the receiver is whole. A nonce of an odd number of bytes or of more than 32 is refused, and nothing is changed.
     pub fn begin(&mut self, nonce: &[u8]) -> Result<(), Fault>
-        ensures bytes { All (λ b. b < 256) nonce.now }
+        ensures bytes { Every (λ b. b < 256) nonce.now }
         ensures value { Begins K.KeyedFunction C.Coefficient self.old nonce.now result self.new }
         ensures coefficient { self.new.coefficient ≡ self.old.coefficient }
         ensures kept { Keeps K.KeyedFunction self.old.function self.new.function }

@@ -1,6 +1,6 @@
 use Rattle.std.proofs.Common.{◌≡◌, ℕ, List, [], length, vec_items, vec_len, sym, refl, ap, ◌∙◌, subst, arith, rules}
 use Rattle.std.specs.Vec.Iter.{into_iter_items}
-use Rattle.std.specs.List.{AllByRecursion as All}
+use Rattle.std.specs.List.{AllByRecursion as Every}
 use Rattle.sss.specs.Cipher.{keyed}
 use Rattle.sss.specs.Kept.{Kept}
 use Rattle.sss.proofs.Asked.{kept_twice}
@@ -110,7 +110,7 @@ returns g c =
       law = λ s r table image.
           history_law f A f' A' (keyed_one_to_one (S.table c.args.sealer.0) (g.met.SK.KeyedFunction.lawful c.args.sealer.0 s))
           (g.met.SC.Coefficient.lawful c.args.sealer.1) (ap keyed table) image calls
-          (subst (All CallFits) c.into_iter-call-iterator.ensures.into_iter_gives.0 (inv.1 (fits_none rest none)))
+          (subst (Every CallFits) c.into_iter-call-iterator.ensures.into_iter_gives.0 (inv.1 (fits_none rest none)))
           (after c.loop-call.history) (value s r);
       meaning =
           record {

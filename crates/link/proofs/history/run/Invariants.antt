@@ -1,6 +1,6 @@
 use Rattle.std.proofs.Common.{◌≡◌}
 use Rattle.std.specs.Vec.Iter.{into_iter_items}
-use Rattle.std.specs.List.{AllByRecursion as All}
+use Rattle.std.specs.List.{AllByRecursion as Every}
 use Rattle.sss.specs.Cipher.{keyed}
 use Rattle.sss.specs.Kept.{Kept}
 use Rattle.link.specs.Ends.{CallFits, sealer_coefficient, sealer_function}
@@ -20,7 +20,7 @@ invariant-loop-call g l =
     let rest = into_iter_items l.call-iterator in
     (S.sound s → R.sound r →
     ToCome (keyed (S.table s)) (g.SC.Coefficient.image a) (keyed (R.table r)) (g.RC.Coefficient.image b) (after l.initial.history) all (after l.history) rest) ×
-    (All CallFits rest → All CallFits all) ×
+    (Every CallFits rest → Every CallFits all) ×
     Kept (S.table s) (S.sound s) (S.table (sealer_function l.history.sealer)) (S.sound (sealer_function l.history.sealer)) ×
     Kept (R.table r) (R.sound r) (R.table l.history.receiver.function) (R.sound l.history.receiver.function) ×
     (sealer_coefficient l.history.sealer ≡ a) ×

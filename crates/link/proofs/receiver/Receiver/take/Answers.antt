@@ -1,5 +1,5 @@
 use Rattle.std.proofs.Common.{◌<◌, vec_items, sym, ap, ◌∙◌, subst, arith, rules}
-use Rattle.std.specs.List.{AllByRecursion as All}
+use Rattle.std.specs.List.{AllByRecursion as Every}
 use Rattle.sss.specs.Cipher.{NonceFits, keyed, begun}
 use Rattle.sss.specs.Registers.{state}
 use Rattle.link.specs.Ends.{receiver_made}
@@ -21,7 +21,7 @@ returns-in-Ok g c =
           (λ s i. (record { reception = said.value.1.reception i; registers = (said.value.1.registers s ∙ ap (begun f A) bytes) i }, Begun nonce));
       coefficient = search rules;
       kept = search rules;
-      fits = rw c.in-Begin.is (subst (All (λ b. b < 256)) bytes said.bytes);
+      fits = rw c.in-Begin.is (subst (Every (λ b. b < 256)) bytes said.bytes);
     }
 
 pub returns-in-Err : goal.returns-in-Err
@@ -36,7 +36,7 @@ returns-in-Err g c =
           (λ s i. (record { reception = said.value.2.reception i; registers = state (said.value.2.registers i) }, Refused nonce (said.value.1 i)));
       coefficient = search rules;
       kept = search rules;
-      fits = rw c.in-Begin.is (subst (All (λ b. b < 256)) bytes said.bytes);
+      fits = rw c.in-Begin.is (subst (Every (λ b. b < 256)) bytes said.bytes);
     }
 
 pub returns-in-Word : goal.returns-in-Word
