@@ -4,6 +4,7 @@
 It knows the scenario on its own, and has the other author's program seal the
 messages and take them:
 
+    mkdir -p target
     rustc -O --edition 2021 reference/reference.rs -o target/reference
     tools/expected_weld.py target/reference > crates/weld/stdout
 

@@ -5,8 +5,9 @@ is used twice, a word after the tag, a word before a message is open.
 A misuse has the form of a must-fail edit (`file:`, `old:`, `new:`), but it is
 refused for a variable that was moved or a method that is not there, before
 anything is proved, and the must-fail run takes only what reaches the prover.
-Run it from the repository's root once the crates are proved (`rt check weld`);
-its last line is `N refused, M not`.
+Run it from the repository's root; it works on a copy, compiles each misuse
+with `rt try`, and its last line is `N refused, M not`. That the program
+compiles where nothing is misused, it sees first.
 """
 import pathlib
 import re
@@ -23,15 +24,13 @@ def replacement(edit):
     return fields["file"], fields["old"], fields["new"]
 
 
-def copied(root, where):
-    """A copy of the repository in which an edit can be made."""
-    shutil.copytree(root / "crates", where / "crates")
-    shutil.copy(root / "crates.txt", where)
-    for part in ("rlib", "stamp", "log"):
-        shutil.copytree(root / "target" / part, where / "target" / part)
+def compiled(where, crate):
+    """What the compiler says of a program, and whether it runs."""
+    run = subprocess.run(["rt", "try", crate], cwd=where / "crates" / crate, capture_output=True, text=True)
+    return run.stdout + run.stderr, run.returncode == 0
 
 
-def refusal(root, where, edit):
+def refusal(where, edit):
     """What the compiler says against an edit, or None."""
     crate = edit.parent.parent.name
     name, old, new = replacement(edit)
@@ -40,24 +39,30 @@ def refusal(root, where, edit):
     if text.count(old) != 1:
         sys.exit(f"{edit}: its old text does not stand once in {name}")
     source.write_text(text.replace(old, new))
-    run = subprocess.run(["rt", "mir", crate], cwd=where, capture_output=True, text=True)
+    said, runs = compiled(where, crate)
     source.write_text(text)
-    found = REFUSAL.search(run.stdout + run.stderr)
-    return found.group(0).split(": note:")[0] if found and run.returncode else None
+    found = REFUSAL.search(said)
+    return found.group(0).split(": note:")[0] if found and not runs else None
 
 
 def main():
     root = pathlib.Path.cwd()
-    refused = others = 0
+    edits = sorted(root.glob("crates/*/misuse/*.edit"))
+    refused = 0
     with tempfile.TemporaryDirectory() as folder:
         where = pathlib.Path(folder)
-        copied(root, where)
-        for edit in sorted(root.glob("crates/*/misuse/*.edit")):
-            said = refusal(root, where, edit)
-            refused, others = refused + bool(said), others + (not said)
+        shutil.copytree(root / "crates", where / "crates", ignore=shutil.ignore_patterns("out"))
+        shutil.copy(root / "crates.txt", where)
+        for crate in sorted({edit.parent.parent.name for edit in edits}):
+            said, runs = compiled(where, crate)
+            if not runs:
+                sys.exit(f"{crate} does not run as it stands:\n{said}")
+        for edit in edits:
+            said = refusal(where, edit)
+            refused += bool(said)
             print(f"{edit.parent.parent.name}/{edit.stem}: {said or 'NOT REFUSED'}")
-    print(f"{refused} refused, {others} not")
-    sys.exit(1 if others or not refused else 0)
+    print(f"{refused} refused, {len(edits) - refused} not")
+    sys.exit(0 if edits and refused == len(edits) else 1)
 
 
 main()

@@ -16,13 +16,17 @@ mod tests {
         assert_eq!(rt; Fault::Nonce.number(), 3);
         assert_eq!(rt; Fault::Nonce.place(), 0);
         assert_eq!(rt; Fault::Table.layer(), Layer::Key);
+        assert_eq!(rt; Fault::Nonce.layer(), Layer::Message);
+    }
+
+    #[test]
+    fn the_faults_of_a_sealer_have_their_numbers(rt: HostRuntime) {
         assert_eq!(rt; Fault::Exhausted.number(), 4);
         assert_eq!(rt; Fault::Full.number(), 5);
         assert_eq!(rt; Fault::Exhausted.place(), 0);
         assert_eq!(rt; Fault::Full.place(), 0);
         assert_eq!(rt; Fault::Exhausted.layer(), Layer::Message);
         assert_eq!(rt; Fault::Full.layer(), Layer::Message);
-        assert_eq!(rt; Fault::Nonce.layer(), Layer::Message);
     }
 
     #[test]
