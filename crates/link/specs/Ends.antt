@@ -115,7 +115,7 @@ made f A f' A' s (OnReceiver x) =
 abbrev pub one_call : (f A f' A' : ℕ → ℕ) → Ends × List Entry → Call → Ends × List Entry
 one_call f A f' A' h x = let o = made f A f' A' h.0 x in (o.0, h.1 ++ o.1 ∷ [])
 
--- Every calls of a list, in order, from new ends and an empty log.
+-- All calls of a list, in order, from new ends and an empty log.
 unfoldable pub history : (f A f' A' : ℕ → ℕ) → List Call → Ends × List Entry
 history f A f' A' calls = fold (one_call f A f' A') (new_ends, []) calls
 

@@ -1,5 +1,5 @@
 -- THE LAW OF A LOSS. What holds of every run of a sealer and a receiver with one key and one coefficient, whatever calls were made on them
--- and whatever became of the words between them. Every of it is read off the log: f is the keyed function, A the coefficient.
+-- and whatever became of the words between them. All of it is read off the log: f is the keyed function, A the coefficient.
 use Rattle.std.specs.Prelude.{◌≡◌, ℕ, ◌+◌, ◌-◌, ◌≤◌, cond, ◌≢◌, ◌⊎◌, ◌↔◌, List, [], ◌∷◌, ◌++◌, map, length, drop, ◌==◌}
 use Rattle.std.proofs.Common.{inl, inr}
 use Rattle.std.specs.List.{ContainsAt as Has, AllByRecursion as Every}

@@ -1,6 +1,6 @@
 -- SSS, the self-synchronizing stream cipher with a tag, as published. A word is a number below 65536, a register is a list of seventeen
 -- words, f is the keyed function and A the coefficient of the check register. The three printed tables are in Tables.
-use Rattle.std.specs.Prelude.{◌≡◌, ℕ, zero, suc, ◌+◌, ◌-◌, ◌*◌, ◌/◌, ◌%◌, ◌^◌, ◌<◌, ◌≤◌, cond, List, [], ◌∷◌, ◌++◌, map, reverse, length, drop, set, replicate, bit_and, bit_xor, nat_lt, slice_index, slice_index_or, slice_set}
+use Rattle.std.specs.Prelude.{◌≡◌, ℕ, zero, suc, ◌+◌, ◌-◌, ◌*◌, ◌/◌, ◌%◌, ◌^◌, ◌<◌, ◌≤◌, cond, List, [], ◌∷◌, ◌++◌, map, reverse, length, drop, replicate, bit_and, bit_xor, nat_lt, slice_index, slice_set}
 use Rattle.std.specs.List.{range_with_len}
 use Rattle.sss.specs.Tables.{skipjack, qbox, products}
 use Rattle.sss.specs.declared.message.MaskedWord.{MaskedWord}
@@ -58,7 +58,7 @@ key_byte (k ∷ ks) b = key_byte ks (slice_index skipjack (bit_xor b k))
 unfoldable pub key_word : ℕ → List ℕ → ℕ → ℕ
 key_word i [] b = 0
 key_word i (k ∷ ks) b =
-    let b' : ℕ = slice_index_or skipjack (bit_xor b k) 0 in
+    let b' : ℕ = slice_index skipjack (bit_xor b k) in
     bit_xor (rotate i (slice_index qbox b')) (key_word (i + 1) ks b')
 
 -- The entry at x: its high byte is b(N) ⊕ x, its low byte that of the word above.
@@ -88,8 +88,8 @@ times_z_power (suc n) a = times_z_power n (times_z a)
 unfoldable pub step : (ℕ → ℕ) → List ℕ → ℕ → List ℕ
 step f r c =
     let r₁ : List ℕ = drop 1 r ++ c ∷ [] in
-    let r₂ : List ℕ = set r₁ 14 (plus (slice_index r₁ 14) (f (rot8 c))) in
-    let r₃ : List ℕ = set r₂ 12 (f (slice_index r₂ 12)) in
+    let r₂ : List ℕ = slice_set r₁ 14 (plus (slice_index r₁ 14) (f (rot8 c))) in
+    let r₃ : List ℕ = slice_set r₂ 12 (f (slice_index r₂ 12)) in
     slice_set r₃ 1 (rot8 (slice_index r₃ 1))
 
 -- The keystream word: (f(f(r[0] + r[16]) + r[1] + r[6] + r[13]) >>> 8) ⊕ r[0].
