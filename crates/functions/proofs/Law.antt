@@ -55,13 +55,13 @@ module _ (S : List ℕ) (seen : List Bool) (n : ℕ) (before : Seen S seen n) (b
           | inl p ↦ elim (cases_lt j n) [
             | inl q ↦ before.apart i j p q e
             | inr q ↦
-                let j-is : j ≡ n = omega arith in
-                absurd (fresh new i p (e ∙ ap (byte_at S) j-is ∙ sym is))
+                let j_is : j ≡ n = omega arith in
+                absurd (fresh new i p (e ∙ ap (byte_at S) j_is ∙ sym is))
           ]
           | inr p ↦ elim (cases_lt j n) [
             | inl q ↦
-                let i-is : i ≡ n = omega arith in
-                absurd (fresh new j q (sym e ∙ ap (byte_at S) i-is ∙ sym is))
+                let i_is : i ≡ n = omega arith in
+                absurd (fresh new j q (sym e ∙ ap (byte_at S) i_is ∙ sym is))
             | inr q ↦ omega arith
           ]
         ];

@@ -1,7 +1,7 @@
 //! The three fixed tables of SSS, as printed with the cipher, and a look-up in each.
 ghost use Rattle.std.specs.Prelude.{◌≡◌, slice_index};
 ghost use Rattle.sss.specs.Cipher.{times_z_power};
-ghost use Rattle.sss.specs.Tables.{products as product-table, qbox as qbox-table, skipjack as skipjack-table};
+ghost use Rattle.sss.specs.Tables.{products as product_table, qbox as qbox_table, skipjack as skipjack_table};
 
 /// The F table of Skipjack: a permutation of the bytes.
 const SKIPJACK: [u8; 256] = [
@@ -77,21 +77,21 @@ const PRODUCTS: [u16; 256] = [
 
 /// The byte of Skipjack's F table at `b`.
 pub(crate) fn skipjack(b: u8) -> u8
-    ensures { result ≡ slice_index skipjack-table b }
+    ensures { result ≡ slice_index skipjack_table b }
 {
     SKIPJACK[usize::from(b)]
 }
 
 /// The word of the Qbox at `b`.
 pub(crate) fn qbox(b: u8) -> u16
-    ensures { result ≡ slice_index qbox-table b }
+    ensures { result ≡ slice_index qbox_table b }
 {
     QBOX[usize::from(b)]
 }
 
 /// The printed product of the byte `b` and z^16.
 pub(crate) fn printed_product(b: u8) -> u16
-    ensures value { result ≡ slice_index product-table b }
+    ensures value { result ≡ slice_index product_table b }
     ensures rule { result ≡ times_z_power 16 b }
 {
     PRODUCTS[usize::from(b)]

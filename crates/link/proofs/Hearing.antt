@@ -12,7 +12,7 @@ use Rattle.link.specs.Receiving.{decided}
 use Rattle.link.specs.declared.call.ReceiverCall.{ReceiverCall}
 use Rattle.link.specs.declared.call.ReceiverCall.TheVariants.{Begin as Hear, Word as Take, Break, Finish as End}
 use Rattle.link.specs.declared.call.ReceiverEntry.{ReceiverEntry}
-use Rattle.link.specs.declared.call.ReceiverEntry.TheVariants as receiver-entry
+use Rattle.link.specs.declared.call.ReceiverEntry.TheVariants as receiver_entry
 use Rattle.link.specs.declared.reception.Reception.{Reception}
 use Rattle.link.specs.declared.reception.Reception.TheVariants.{Whole, Caught, Lost}
 use Rattle.link.specs.declared.reception.Event.TheVariants as event
@@ -89,7 +89,7 @@ module _ (f A : ℕ → ℕ) (onef : OneToOne f) (oneA : OneToOne A) where
       let g : State = begun f A (vec_items nonce) in
       let s' : Receiving = record { reception = Whole; registers = g } in
       let k : Sized g = begun_sized f A onef oneA (vec_items nonce) fits in
-      cond_both (nonce_taken (vec_items nonce)) (s', receiver-entry.Begun nonce) (s, receiver-entry.Refused nonce Nonce)
+      cond_both (nonce_taken (vec_items nonce)) (s', receiver_entry.Begun nonce) (s, receiver_entry.Refused nonce Nonce)
       (λ (o : Receiving × ReceiverEntry). ReceiverGood f A o.0 (stretch_noted o.1 ss) (heard_noted since o.1))
       (λ e.
       record {

@@ -19,7 +19,7 @@ use Rattle.link.specs.declared.call.Call.TheVariants.{OnSealer, OnReceiver}
 use Rattle.link.specs.declared.call.SealerEntry.{SealerEntry}
 use Rattle.link.specs.declared.call.SealerEntry.TheVariants.{Finished, Sealed, Refused}
 use Rattle.link.specs.declared.call.ReceiverEntry.{ReceiverEntry}
-use Rattle.link.specs.declared.call.ReceiverEntry.TheVariants.{Finished as Ended, Begun as Begun-there, Refused as Refused-there}
+use Rattle.link.specs.declared.call.ReceiverEntry.TheVariants.{Finished as Ended, Begun as BegunThere, Refused as RefusedThere}
 use Rattle.link.specs.declared.call.Entry.{Entry}
 use Rattle.link.specs.declared.call.Entry.TheVariants.{OfSealer, OfReceiver}
 use Rattle.sss.specs.declared.Fault.TheVariants.{Full, Nonce}
@@ -59,8 +59,8 @@ module _ (f A : ℕ → ℕ) where
   unfolding receiver_made
   verdict_given s (Hear nonce) t v e =
       absurd (cond_both (nonce_taken (vec_items nonce))
-      (record { reception = (decided s.reception event.Begin).0; registers = begun f A (vec_items nonce) }, Begun-there nonce)
-      (s, Refused-there nonce Nonce) (λ (o : Receiving × ReceiverEntry). o.1 ≡ Ended t v → ⊥)
+      (record { reception = (decided s.reception event.Begin).0; registers = begun f A (vec_items nonce) }, BegunThere nonce)
+      (s, RefusedThere nonce Nonce) (λ (o : Receiving × ReceiverEntry). o.1 ≡ Ended t v → ⊥)
       (λ b h. let z : ◌≡◌ {A = ℕ} 0 1 = cc in omega arith) (λ b h. let z : ◌≡◌ {A = ℕ} 0 1 = cc in omega arith) e)
   verdict_given s (Take mask m) t v e = absurd (let z : ◌≡◌ {A = ℕ} 0 1 = cc in omega arith)
   verdict_given s Break t v e = absurd (let z : ◌≡◌ {A = ℕ} 0 1 = cc in omega arith)

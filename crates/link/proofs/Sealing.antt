@@ -13,7 +13,7 @@ use Rattle.link.specs.declared.issuer.Nonce.{Nonce}
 use Rattle.link.specs.declared.call.SealerCall.{SealerCall}
 use Rattle.link.specs.declared.call.SealerCall.TheVariants.{Begin, Word as Seal, Finish, Abandon}
 use Rattle.link.specs.declared.call.SealerEntry.{SealerEntry}
-use Rattle.link.specs.declared.call.SealerEntry.TheVariants as sealer-entry
+use Rattle.link.specs.declared.call.SealerEntry.TheVariants as sealer_entry
 use Rattle.link.proofs.Received.{received, all_received, received_wire, all_received_push, taken_sized, wire_is_word, zeroed_sized, begun_sized}
 use Rattle.link.proofs.Invariants.{Bytes, SealedFrom, SealedMessage, SealerGood}
 
@@ -69,7 +69,7 @@ module _ (f A : ℕ → ℕ) (onef : OneToOne f) (oneA : OneToOne A) where
       let w : Sent = record { mask = mask; plain = p; wire = wire_word f g mask p } in
       let from : State = start_of f A since.start in
       let m : Message = h.is_open.0 in
-      let sealed-too : SealedFrom f A from (since.words ++ w ∷ []) =
+      let sealed_too : SealedFrom f A from (since.words ++ w ∷ []) =
       sealed_push f A from since.words w h.since_sealed (ap (λ (x : State). wire_word f x mask p) h.reached)
       (wire_is_word f A onef oneA g mask p h.sized fits) in
       let before : Every (SealedMessage f A) (m ∷ h.is_open.1) = subst (Every (SealedMessage f A)) h.is_open.2 h.sealed in
@@ -79,12 +79,12 @@ module _ (f A : ℕ → ℕ) (onef : OneToOne f) (oneA : OneToOne A) where
             subst (λ (l : List Message). Every (SealedMessage f A) (sent_too w l)) (sym h.is_open.2) (
               (
                 before.0.0,
-                subst (λ (s : Since Sent). SealedFrom f A (start_of f A s.start) (s.words ++ w ∷ [])) h.is_open.3 sealed-too,
+                subst (λ (s : Since Sent). SealedFrom f A (start_of f A s.start) (s.words ++ w ∷ [])) h.is_open.3 sealed_too,
               ),
               before.1,
             );
         start_fits = h.start_fits;
-        since_sealed = sealed-too;
+        since_sealed = sealed_too;
         reached =
             word_taken f A g w refl ∙ ap (λ (x : State). received f A x mask w.wire) h.reached ∙
             sym (all_received_push f A from (map wire_of since.words) (wire_of w)) ∙
@@ -116,8 +116,8 @@ module _ (f A : ℕ → ℕ) (onef : OneToOne f) (oneA : OneToOne A) where
   sealer_keeps (ready g) ms since Abandon fits h = h
   sealer_keeps (in_message n g) ms since (Begin k) fits h = h
   sealer_keeps (in_message n g) ms since (Seal mask p) fits h =
-      cond_both (ltb n 65536) (in_message (n + 1) (taken f A g mask p), sealer-entry.Sealed mask p (wire_word f g mask p))
-      (in_message n g, sealer-entry.Refused mask p Full)
+      cond_both (ltb n 65536) (in_message (n + 1) (taken f A g mask p), sealer_entry.Sealed mask p (wire_word f g mask p))
+      (in_message n g, sealer_entry.Refused mask p Full)
       (λ (o : Sealing × SealerEntry). SealerGood f A o.0 (message_noted o.1 ms) (sent_noted since o.1))
       (λ e. word_keeps n g ms since mask p fits h) (λ e. h)
   sealer_keeps (in_message n g) ms since Finish fits h =

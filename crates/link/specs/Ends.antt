@@ -16,9 +16,9 @@ use Rattle.link.specs.declared.call.Entry.{Entry}
 use Rattle.link.specs.declared.call.Entry.TheVariants.{OfSealer, OfReceiver}
 use Rattle.link.specs.declared.call.Unmade.TheVariants as unmade
 use Rattle.link.specs.declared.call.SealerEntry.{SealerEntry}
-use Rattle.link.specs.declared.call.SealerEntry.TheVariants as sealer-entry
+use Rattle.link.specs.declared.call.SealerEntry.TheVariants as sealer_entry
 use Rattle.link.specs.declared.call.ReceiverEntry.{ReceiverEntry}
-use Rattle.link.specs.declared.call.ReceiverEntry.TheVariants as receiver-entry
+use Rattle.link.specs.declared.call.ReceiverEntry.TheVariants as receiver_entry
 use Rattle.link.specs.declared.reception.Reception.{Reception}
 use Rattle.link.specs.declared.reception.Reception.TheVariants.{Lost}
 use Rattle.link.specs.declared.reception.Event.TheVariants as event
@@ -62,16 +62,16 @@ sealer_coefficient (Open m) = m.coefficient
 
 -- A call on the sealer: where it then stands, and what the log notes.
 unfoldable pub sealer_made : (ℕ → ℕ) → (ℕ → ℕ) → Sealing → SealerCall → Sealing × SealerEntry
-sealer_made f A (ready g) (Begin n) = (in_message 0 (begun f A (nonce_bytes n)), sealer-entry.Begun (nonce_bytes n))
-sealer_made f A (ready g) (Seal mask p) = (ready g, sealer-entry.OutOfTurn (unmade.Word mask p))
-sealer_made f A (ready g) Finish = (ready g, sealer-entry.OutOfTurn unmade.Finish)
-sealer_made f A (ready g) Abandon = (ready g, sealer-entry.OutOfTurn unmade.Abandon)
-sealer_made f A (in_message n g) (Begin k) = (in_message n g, sealer-entry.OutOfTurn (unmade.Begin (nonce_bytes k)))
+sealer_made f A (ready g) (Begin n) = (in_message 0 (begun f A (nonce_bytes n)), sealer_entry.Begun (nonce_bytes n))
+sealer_made f A (ready g) (Seal mask p) = (ready g, sealer_entry.OutOfTurn (unmade.Word mask p))
+sealer_made f A (ready g) Finish = (ready g, sealer_entry.OutOfTurn unmade.Finish)
+sealer_made f A (ready g) Abandon = (ready g, sealer_entry.OutOfTurn unmade.Abandon)
+sealer_made f A (in_message n g) (Begin k) = (in_message n g, sealer_entry.OutOfTurn (unmade.Begin (nonce_bytes k)))
 sealer_made f A (in_message n g) (Seal mask p) =
-    cond (nat_lt n 65536) (in_message (n + 1) (taken f A g mask p), sealer-entry.Sealed mask p (wire_word f g mask p))
-    (in_message n g, sealer-entry.Refused mask p Full)
-sealer_made f A (in_message n g) Finish = (ready zeroed, sealer-entry.Finished (tag f g))
-sealer_made f A (in_message n g) Abandon = (ready zeroed, sealer-entry.Abandoned)
+    cond (nat_lt n 65536) (in_message (n + 1) (taken f A g mask p), sealer_entry.Sealed mask p (wire_word f g mask p))
+    (in_message n g, sealer_entry.Refused mask p Full)
+sealer_made f A (in_message n g) Finish = (ready zeroed, sealer_entry.Finished (tag f g))
+sealer_made f A (in_message n g) Abandon = (ready zeroed, sealer_entry.Abandoned)
 
 -- Whether nonce bytes are taken: an even number of them, at most 32.
 abbrev pub nonce_taken : List ℕ → Bool
@@ -81,17 +81,17 @@ nonce_taken bytes = length bytes % 2 == 0 && nat_le (length bytes) 32
 unfoldable pub receiver_made : (ℕ → ℕ) → (ℕ → ℕ) → Receiving → ReceiverCall → Receiving × ReceiverEntry
 receiver_made f A s (Hear nonce) =
     cond (nonce_taken (vec_items nonce))
-    (record { reception = (decided s.reception event.Begin).0; registers = begun f A (vec_items nonce) }, receiver-entry.Begun nonce)
-    (s, receiver-entry.Refused nonce Nonce)
+    (record { reception = (decided s.reception event.Begin).0; registers = begun f A (vec_items nonce) }, receiver_entry.Begun nonce)
+    (s, receiver_entry.Refused nonce Nonce)
 receiver_made f A s (Take mask m) =
     let p : ℕ = plain_word f s.registers mask m in
     let d = decided s.reception (event.Word mask) in
-    (record { reception = d.0; registers = taken f A s.registers mask p }, receiver-entry.Received mask m (answer_of d.1 p))
+    (record { reception = d.0; registers = taken f A s.registers mask p }, receiver_entry.Received mask m (answer_of d.1 p))
 receiver_made f A s Break =
-    (record { reception = (decided s.reception event.Break).0; registers = s.registers }, receiver-entry.BrokenOff)
+    (record { reception = (decided s.reception event.Break).0; registers = s.registers }, receiver_entry.BrokenOff)
 receiver_made f A s (End t) =
     let d = decided s.reception event.Finish in
-    (record { reception = d.0; registers = zeroed }, receiver-entry.Finished t (verdict_of d.1 t (tag f s.registers)))
+    (record { reception = d.0; registers = zeroed }, receiver_entry.Finished t (verdict_of d.1 t (tag f s.registers)))
 
 -- Both ends.
 pub record Ends : Type 0 where

@@ -9,7 +9,7 @@ use Rattle.link.specs.declared.call.Entry.TheVariants.{OfSealer, OfReceiver}
 use Rattle.link.specs.declared.call.SealerEntry.{SealerEntry}
 use Rattle.link.specs.declared.call.SealerEntry.TheVariants.{Begun, Sealed, Refused, Finished, Abandoned, OutOfTurn}
 use Rattle.link.specs.declared.call.ReceiverEntry.{ReceiverEntry}
-use Rattle.link.specs.declared.call.ReceiverEntry.TheVariants.{Begun as Begun-there, Refused as Refused-there, Received, BrokenOff, Finished as Ended}
+use Rattle.link.specs.declared.call.ReceiverEntry.TheVariants.{Begun as BegunThere, Refused as RefusedThere, Received, BrokenOff, Finished as Ended}
 
 -- A word that the sealer sealed: its mask, the plaintext it was given, and the wire word.
 pub record Sent : Type 0 where
@@ -74,8 +74,8 @@ marked m ss = record { mark = m; words = [] } ∷ ss
 
 -- What an entry of the receiver adds to the stretches: a mark begins one, a word is added to it, a refused begin adds nothing.
 abbrev pub stretch_noted : ReceiverEntry → List Stretch → List Stretch
-stretch_noted (Begun-there nonce) ss = marked (begin (vec_items nonce)) ss
-stretch_noted (Refused-there nonce fault) ss = ss
+stretch_noted (BegunThere nonce) ss = marked (begin (vec_items nonce)) ss
+stretch_noted (RefusedThere nonce fault) ss = ss
 stretch_noted (Received mask wire answer) ss = heard_too (record { mask = mask; wire = wire; answer = answer }) ss
 stretch_noted BrokenOff ss = marked break ss
 stretch_noted (Ended tag verdict) ss = marked finish ss
@@ -122,8 +122,8 @@ sent_since log = fold sent_then (reset_to None) log
 
 -- What an entry of the receiver does: a begin that was taken and a finish reset, a word is added, a break does nothing.
 abbrev pub heard_noted : Since Heard → ReceiverEntry → Since Heard
-heard_noted s (Begun-there nonce) = reset_to (Some (vec_items nonce))
-heard_noted s (Refused-there nonce fault) = s
+heard_noted s (BegunThere nonce) = reset_to (Some (vec_items nonce))
+heard_noted s (RefusedThere nonce fault) = s
 heard_noted s (Received mask wire answer) = one_more s (record { mask = mask; wire = wire; answer = answer })
 heard_noted s BrokenOff = s
 heard_noted s (Ended tag verdict) = reset_to None

@@ -65,7 +65,7 @@ module _ (v : Vector) where
   unfolding Exactly
   none_exactly found ways =
       let key : Exactly (Published v) (FromKeyWays v) = then_exactly (Published v) _ _ (keyed_exactly _) (keyed_exactly _) in
-      let filled-given = then_exactly (Published v) _ _ (keyed_exactly _) (keyed_exactly _) in
-      let table : Exactly (Published v) (TableWays v) = then_exactly (Published v) _ _ filled-given (keyed_exactly _) in
+      let filled_given = then_exactly (Published v) _ _ (keyed_exactly _) (keyed_exactly _) in
+      let table : Exactly (Published v) (TableWays v) = then_exactly (Published v) _ _ filled_given (keyed_exactly _) in
       let both = then_exactly (Published v) (FromKeyWays v) (TableWays v) key table found ways in
       both

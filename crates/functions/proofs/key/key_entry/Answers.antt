@@ -24,6 +24,6 @@ returns c =
     let whole = xor_zero_r c.loop-i.word in
     let low = and_mask c.loop-i.word 8 in
     let sum : c.from_le_bytes.result ≡ bit_xor c.loop-i.byte c.args.x * 256 + c.loop-i.word % 256 = omega arith in
-    let byte-is : c.loop-i.byte ≡ key_byte key c.args.x = cc in
-    let word-is : c.loop-i.word ≡ key_word 0 key c.args.x = cc in
+    let byte_is : c.loop-i.byte ≡ key_byte key c.args.x = cc in
+    let word_is : c.loop-i.word ≡ key_word 0 key c.args.x = cc in
     cc
