@@ -1,38 +1,36 @@
 -- The loops of begin: the nonce words, and the seventeen open zeros.
-use Rattle.std.proofs.Common.{◌≡◌, ℕ, zero, suc, ◌+◌, ◌-◌, ◌*◌, ◌/◌, ◌<◌, ◌≤◌, List, [], ◌∷◌, length, get_or, drop, sym, refl, ap, ◌∙◌, arith}
-use Rattle.std.proofs.lemmas.List.{drop_more, length-drop}
+use Rattle.std.proofs.Common.{◌≡◌, ℕ, zero, suc, ◌+◌, ◌-◌, ◌*◌, ◌/◌, ◌<◌, List, [], ◌∷◌, map, length, get_or, refl, ap, ◌∙◌, arith}
+use Rattle.std.specs.Simd.{first_chunks}
 use Rattle.sss.specs.Cipher.{State, words_of, nonce_taken, nonces_taken, taken, open_zeros}
 
--- The next two bytes make the next word.
-pub words_of_more : (bs : List ℕ) (i : ℕ) → i < length bs / 2 →
-    words_of (drop (2 * i) bs) ≡ (get_or bs (2 * i) 0 + get_or bs (2 * i + 1) 0 * 256) ∷ words_of (drop (2 * (i + 1)) bs)
-words_of_more bs i h =
-    let next : 2 * i + 1 + 1 ≡ 2 * (i + 1) = omega arith in
-    let first = drop_more bs (2 * i) 0 (omega arith) in
-    let second = drop_more bs (2 * i + 1) 0 (omega arith) in
-    ap words_of (first ∙ ap {B = List ℕ} (λ xs. get_or bs (2 * i) 0 ∷ xs) second) ∙
-    ap (λ (n : ℕ). (get_or bs (2 * i) 0 + get_or bs (2 * i + 1) 0 * 256) ∷ words_of (drop n bs)) next
+-- A pair of bytes as a word.
+abbrev pub pair_word : List ℕ → ℕ
+pair_word pair = get_or pair 0 0 + get_or pair 1 0 * 256
 
-words_of_few : (xs : List ℕ) → length xs ≤ 1 → words_of xs ≡ []
-words_of_few [] h = refl
-words_of_few (x ∷ []) h = refl
-words_of_few (x ∷ y ∷ xs) h = absurd (omega arith)
-
-pub words_of_all : (bs : List ℕ) (i : ℕ) → length bs / 2 ≤ i → words_of (drop (2 * i) bs) ≡ []
-words_of_all bs i h = words_of_few (drop (2 * i) bs) (omega (arith, length-drop (2 * i) bs))
+-- The pairs of bytes are the words.
+pub pairs_are_words : (n : ℕ) (bs : List ℕ) → length bs / 2 ≡ n → map pair_word (first_chunks 2 n bs) ≡ words_of bs
+pairs_are_words zero [] h = refl
+pairs_are_words zero (a ∷ []) h = refl
+pairs_are_words zero (a ∷ b ∷ bs) h = absurd (omega arith)
+pairs_are_words (suc n) [] h = absurd (omega arith)
+pairs_are_words (suc n) (a ∷ []) h = absurd (omega arith)
+pairs_are_words (suc n) (a ∷ b ∷ bs) h = ap {B = List ℕ} (λ ws. (a + b * 256) ∷ ws) (pairs_are_words n bs (omega arith))
 
 module _ (f A : ℕ → ℕ) where
-  -- One nonce word more.
-  pub nonces_more : (g g' : State) (bs : List ℕ) (i w : ℕ) → i < length bs / 2 → w ≡ get_or bs (2 * i) 0 + get_or bs (2 * i + 1) 0 * 256 →
-      g' ≡ nonce_taken f A g w → nonces_taken f A g' (words_of (drop (2 * (i + 1)) bs)) ≡ nonces_taken f A g (words_of (drop (2 * i) bs))
-  unfolding nonces_taken
-  nonces_more g g' bs i w h is step =
-      ap (λ (x : State). nonces_taken f A x (words_of (drop (2 * (i + 1)) bs))) (step ∙ ap (nonce_taken f A g) is) ∙
-      sym (ap (nonces_taken f A g) (words_of_more bs i h))
+  -- The nonce words of pairs of bytes.
+  abbrev pub pairs_taken : State → List (List ℕ) → State
+  pairs_taken g pairs = nonces_taken f A g (map pair_word pairs)
 
-  pub nonces_all : (g : State) (bs : List ℕ) (i : ℕ) → length bs / 2 ≤ i → nonces_taken f A g (words_of (drop (2 * i) bs)) ≡ g
+  abbrev pub pair_taken : State → List ℕ → State
+  pair_taken g pair = nonce_taken f A g (pair_word pair)
+
+  pub pairs_more : (g : State) (pair : List ℕ) (pairs : List (List ℕ)) → pairs_taken g (pair ∷ pairs) ≡ pairs_taken (pair_taken g pair) pairs
   unfolding nonces_taken
-  nonces_all g bs i h = ap (nonces_taken f A g) (words_of_all bs i h)
+  pairs_more g pair pairs = refl
+
+  pub pairs_none : (g : State) → pairs_taken g [] ≡ g
+  unfolding nonces_taken
+  pairs_none g = refl
 
   -- One open zero more.
   pub zeros_more : (n : ℕ) (g g' : State) → 0 < n → g' ≡ taken f A g 0 0 → open_zeros f A (n - 1) g' ≡ open_zeros f A n g

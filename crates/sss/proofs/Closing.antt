@@ -1,6 +1,6 @@
 -- The loops of closing: the check words that are fed in, and the tag that is drawn.
-use Rattle.std.proofs.Common.{◌≡◌, ℕ, zero, suc, ◌+◌, ◌-◌, ◌<◌, ◌≤◌, List, [], ◌∷◌, ◌++◌, reverse, length, get_or, take, set, replicate, sym, refl, ap, ◌∙◌, arith}
-use Rattle.std.proofs.lemmas.List.{append_assoc, append-nil, take_more_set, take_more, take_all, reverse-append}
+use Rattle.std.proofs.Common.{◌≡◌, ℕ, zero, suc, ◌+◌, ◌-◌, ◌<◌, ◌≤◌, List, [], ◌∷◌, ◌++◌, length, take, set, replicate, sym, refl, ap, ◌∙◌, arith}
+use Rattle.std.proofs.lemmas.List.{append_assoc, append-nil, take_more_set, take_all}
 use Rattle.sss.specs.Cipher.{ciphertext, fed, all_fed, stepped}
 
 -- Of the words to draw, i are drawn: with those still to come they are all the words from the register as it was.
@@ -54,7 +54,3 @@ module _ (f : ℕ → ℕ) (before : List ℕ) where
   drawn_register now words i h so =
       let none : 8 - i ≡ 0 = omega arith in
       sym (ap (λ (n : ℕ). all_fed f now (replicate n 0)) none) ∙ so.register
-
--- One check word more, from the newest down: the words below place i + 1 in reverse begin with that at i.
-pub reverse_more : (c : List ℕ) (i : ℕ) → i < length c → reverse (take (i + 1) c) ≡ get_or c i 0 ∷ reverse (take i c)
-reverse_more c i h = ap reverse (take_more c i 0 h) ∙ reverse-append (take i c) (get_or c i 0 ∷ [])

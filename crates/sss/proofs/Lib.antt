@@ -2,7 +2,10 @@ pub mod Words
 pub mod OneToOne
 pub mod Windows
 pub mod Asked
+pub mod States
+pub mod Left
 pub mod Beginning
 pub mod Closing
-pub mod Translated
+pub mod Passed
 pub mod Returned
+pub mod Refusals

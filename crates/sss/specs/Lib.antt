@@ -1,7 +1,8 @@
 pub mod Tables
 pub mod Cipher
-pub mod Faults
-pub mod Registers
 pub mod Kept
-pub mod Laws
+pub mod Asked
 pub mod Outcomes
+pub mod Laws
+pub mod Directions
+pub mod Faults

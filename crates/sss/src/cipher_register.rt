@@ -1,79 +1,45 @@
-//! The cipher register: seventeen words that the keyed function steps and reads the keystream from.
+//! The steps of the cipher register, and its keystream.
 ghost use Rattle.std.specs.Prelude.{◌≡◌, replicate};
-ghost use Rattle.sss.specs.Cipher.{OneToOne, all_fed, ciphertext, fed, keyed, keystream, step, stepped};
-ghost use Rattle.sss.specs.Kept.{Kept};
-ghost use Rattle.sss.specs.Registers.{window};
+ghost use Rattle.sss.specs.Asked.{Asked};
+ghost use Rattle.sss.specs.Cipher.{OneToOne, all_fed, ciphertext, fed, keystream, step, stepped};
 
 use crate::keyed::KeyedFunction;
-use crate::shift_register::ShiftRegister;
-
-/// The cipher register r[0] to r[16].
-#[derive(Drop)]
-pub struct CipherRegister {
-    cells: ShiftRegister,
-}
+use crate::register::CipherRegister;
 
 impl CipherRegister {
-    /// A register of zeros.
-    pub fn new() -> Self
-        ensures { window result.cells ≡ replicate 17 0 }
-    {
-        CipherRegister {
-            cells: ShiftRegister::from_words([0; 17]),
-        }
-    }
-
-    /// A register that holds these words, r[0] first.
-    pub fn from_words(words: [u16; 17]) -> Self
-        ensures { window result.cells ≡ words }
-    {
-        CipherRegister {
-            cells: ShiftRegister::from_words(words),
-        }
-    }
-
-    /// The words of the register, r[0] first.
-    pub fn words(&self) -> [u16; 17]
-        ensures { result ≡ window self.now.cells }
-    {
-        self.cells.words()
-    }
-
     /// Feeds in the word `c`: the words shift, f(c >>> 8) is added to r[14], r[12] becomes its image, r[1] is rotated by 8. The function that
     /// steps it is one-to-one on words, by its law.
+    #[tactic(auto, using(crate::proofs::Asked::asked_word, crate::proofs::Asked::asked_then, crate::proofs::Asked::asked_also, crate::proofs::OneToOne::keyed_one_to_one, crate::proofs::Words::rot8_is), unfolding(crate::specs::Cipher::step, crate::specs::Cipher::plus))]
     pub fn step<K: KeyedFunction>(&mut self, f: &mut K, c: u16)
-        ensures register { K.sound f.old → window self.new.cells ≡ step (keyed (K.table f.old)) (window self.old.cells) c }
-        ensures one_to_one { K.sound f.old → OneToOne (keyed (K.table f.old)) }
-        ensures kept { Kept (K.table f.old) (K.sound f.old) (K.table f.new) (K.sound f.new) }
+        ensures { Asked K.KeyedFunction f.old f.new (λ g. (self.new ≡ step g self.old c) × OneToOne g) }
     {
-        self.cells.push(c);
-        let sum = self.cells.at(14).wrapping_add(f.apply(c.rotate_right(8)));
-        self.cells.put(14, sum);
-        let image = f.apply(self.cells.at(12));
-        self.cells.put(12, image);
-        let turned = self.cells.at(1).rotate_right(8);
-        self.cells.put(1, turned);
+        self.push(c);
+        let sum = self.at(14).wrapping_add(f.apply(c.rotate_right(8)));
+        self.put(14, sum);
+        let image = f.apply(self.at(12));
+        self.put(12, image);
+        let turned = self.at(1).rotate_right(8);
+        self.put(1, turned);
     }
 
     /// The keystream word: (f(f(r[0] + r[16]) + r[1] + r[6] + r[13]) >>> 8) ⊕ r[0].
+    #[tactic(auto, using(crate::proofs::Asked::asked_word, crate::proofs::Asked::asked_then, crate::proofs::Words::rot8_is), unfolding(crate::specs::Cipher::keystream, crate::specs::Cipher::plus))]
     pub fn keystream<K: KeyedFunction>(&self, f: &mut K) -> u16
-        ensures value { K.sound f.old → result ≡ keystream (keyed (K.table f.old)) (window self.now.cells) }
-        ensures kept { Kept (K.table f.old) (K.sound f.old) (K.table f.new) (K.sound f.new) }
+        ensures { Asked K.KeyedFunction f.old f.new (λ g. result ≡ keystream g self.now) }
     {
-        let oldest = self.cells.at(0);
-        let inner = f.apply(oldest.wrapping_add(self.cells.at(16)));
-        let near = inner.wrapping_add(self.cells.at(1));
-        let sum = near
-            .wrapping_add(self.cells.at(6))
-            .wrapping_add(self.cells.at(13));
+        let oldest = self.at(0);
+        let inner = f.apply(oldest.wrapping_add(self.at(16)));
+        let sum = inner
+            .wrapping_add(self.at(1))
+            .wrapping_add(self.at(6))
+            .wrapping_add(self.at(13));
         f.apply(sum).rotate_right(8) ^ oldest
     }
 
     /// Feeds in the word that `p` is sealed to, `p ⊕ v`, and answers it.
+    #[tactic(auto, using(crate::proofs::Asked::asked_then), unfolding(crate::specs::Cipher::ciphertext, crate::specs::Cipher::fed))]
     pub fn feed<K: KeyedFunction>(&mut self, f: &mut K, p: u16) -> u16
-        ensures value { K.sound f.old → result ≡ ciphertext (keyed (K.table f.old)) (window self.old.cells) p }
-        ensures register { K.sound f.old → window self.new.cells ≡ fed (keyed (K.table f.old)) (window self.old.cells) p }
-        ensures kept { Kept (K.table f.old) (K.sound f.old) (K.table f.new) (K.sound f.new) }
+        ensures { Asked K.KeyedFunction f.old f.new (λ g. (result ≡ ciphertext g self.old p) × (self.new ≡ fed g self.old p)) }
     {
         let c = p ^ self.keystream(f);
         self.step(f, c);
@@ -82,13 +48,11 @@ impl CipherRegister {
 
     /// Feeds in eight zeros, and answers the eight words that they are sealed to.
     pub fn draw<K: KeyedFunction>(&mut self, f: &mut K) -> [u16; 8]
-        ensures value { K.sound f.old → result ≡ stepped (keyed (K.table f.old)) 8 (window self.old.cells) }
-        ensures register { K.sound f.old → window self.new.cells ≡ all_fed (keyed (K.table f.old)) (window self.old.cells) (replicate 8 0) }
-        ensures kept { Kept (K.table f.old) (K.sound f.old) (K.table f.new) (K.sound f.new) }
+        ensures { Asked K.KeyedFunction f.old f.new (λ g. (result ≡ stepped g 8 self.old) × (self.new ≡ all_fed g self.old (replicate 8 0))) }
     {
         let mut words = [0; 8];
-        for i in 0..8 {
-            words[i] = self.feed(f, 0);
+        for word in words.iter_mut() {
+            *word = self.feed(f, 0);
         }
         words
     }

@@ -28,6 +28,7 @@ pub enum Layer {
 
 impl Fault {
     /// The number that stands for this refusal in listings and for callers in other languages.
+    // The numbers are the product's own: a listing and a caller in C have no enum.
     pub fn number(self) -> u8
         ensures { result ≡ number_of self }
     {
@@ -41,12 +42,12 @@ impl Fault {
     }
 
     /// The place on the tape, and 0 for a refusal that comes from no tape.
+    // That 0, and no `Option`, is the product's rule, for listings and for callers in C.
     pub fn place(self) -> usize
         ensures { result ≡ place_of self }
     {
         match self {
-            Fault::Key | Fault::Table | Fault::Nonce => 0,
-            Fault::Exhausted | Fault::Full => 0,
+            Fault::Key | Fault::Table | Fault::Nonce | Fault::Exhausted | Fault::Full => 0,
         }
     }
 
@@ -56,8 +57,7 @@ impl Fault {
     {
         match self {
             Fault::Key | Fault::Table => Layer::Key,
-            Fault::Nonce => Layer::Message,
-            Fault::Exhausted | Fault::Full => Layer::Message,
+            Fault::Nonce | Fault::Exhausted | Fault::Full => Layer::Message,
         }
     }
 }

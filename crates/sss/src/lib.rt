@@ -5,16 +5,16 @@
 mod check_register;
 mod cipher_register;
 mod coefficient;
+mod direction;
 mod fault;
 mod keyed;
 mod message;
+mod register;
 mod registers;
-mod shift_register;
 
-pub use check_register::CheckRegister;
-pub use cipher_register::CipherRegister;
 pub use coefficient::Coefficient;
 pub use fault::{Fault, Layer};
 pub use keyed::KeyedFunction;
 pub use message::{MaskedWord, open_message, seal_message};
+pub use register::{Check, CheckRegister, Cipher, CipherRegister, Register};
 pub use registers::Registers;

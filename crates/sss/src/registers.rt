@@ -1,17 +1,16 @@
 //! A message's core: both registers, begun with a nonce, fed word by word, and closed with a tag.
 ghost use Rattle.std.specs.Prelude.{◌≡◌, reverse, bit_xor};
-ghost use Rattle.sss.specs.Cipher.{begun, closed, keyed, plain_word, tag, taken, wire_word, words_of, zeroed};
+ghost use Rattle.sss.specs.Asked.{Asked};
+ghost use Rattle.sss.specs.Cipher.{begun, closed, plain_word, tag, taken, wire_word, words_of, zeroed};
 ghost use Rattle.sss.specs.Cipher.{all_fed, check_step, mactext, nonce_taken, nonces_taken, open_zeros, step};
-ghost use Rattle.sss.specs.Kept.{Kept};
 ghost use Rattle.sss.specs.Laws.{MactextFromWire, WordBack};
 ghost use Rattle.sss.specs.Outcomes.{TakesNonce};
-ghost use Rattle.sss.specs.Registers.{state, window};
 
-use crate::check_register::CheckRegister;
-use crate::cipher_register::CipherRegister;
 use crate::coefficient::Coefficient;
 use crate::fault::Fault;
 use crate::keyed::KeyedFunction;
+use crate::register::{CheckRegister, CipherRegister, Register};
+use std::marker::Model;
 
 /// The cipher register and the check register of one message.
 #[derive(Drop)]
@@ -20,49 +19,59 @@ pub struct Registers {
     check: CheckRegister,
 }
 
+impl Model for Registers {
+    ghost use Rattle.sss.specs.Cipher.{State};
+
+    ghost Value = { State };
+
+    ghost view = { λ s. record { r = s.cipher; c = s.check } };
+}
+
+// The keyed function and the coefficient come to each call as two references. In one struct of references (tried) the proof no longer knew the
+// function after the loan; in one struct of values a caller would have to give both up.
 impl Registers {
     /// Both registers zero.
+    #[tactic(auto, unfolding(crate::specs::Cipher::zeroed))]
     pub fn new() -> Self
-        ensures { state result ≡ zeroed }
+        ensures { result ≡ zeroed }
     {
         Registers {
-            cipher: CipherRegister::new(),
-            check: CheckRegister::new(),
+            cipher: Register::new(),
+            check: Register::new(),
         }
     }
 
     /// Sets both registers to zero.
     pub fn reset(&mut self)
-        ensures { state self.new ≡ zeroed }
+        ensures { self.new ≡ zeroed }
     {
-        self.cipher = CipherRegister::new();
-        self.check = CheckRegister::new();
+        *self = Registers::new();
     }
 
     /// The words of the cipher register, r[0] first.
     pub fn cipher_words(&self) -> [u16; 17]
-        ensures { result ≡ (state self.now).r }
+        ensures { result ≡ self.now.r }
     {
         self.cipher.words()
     }
 
     /// The words of the check register, c[0] first.
     pub fn check_words(&self) -> [u16; 17]
-        ensures { result ≡ (state self.now).c }
+        ensures { result ≡ self.now.c }
     {
         self.check.words()
     }
 
     /// Begins a message: both registers zero, each nonce word in turn, then seventeen open zeros. A nonce of an odd number of bytes or of
     /// more than 32 is refused, and nothing is changed.
+    #[tactic(auto, using(crate::proofs::Asked::asked_then), unfolding(crate::specs::Cipher::begun))]
     pub fn begin<K: KeyedFunction, C: Coefficient>(
         &mut self,
         f: &mut K,
         a: &C,
         nonce: &[u8],
     ) -> Result<(), Fault>
-        ensures value { TakesNonce nonce.now (λ _. K.sound f.old → state self.new ≡ begun (keyed (K.table f.old)) (C.image a.now) nonce.now) ((self.new ≡ self.old) × (f.new ≡ f.old)) result }
-        ensures kept { Kept (K.table f.old) (K.sound f.old) (K.table f.new) (K.sound f.new) }
+        ensures { TakesNonce nonce.now (λ _. Asked K.KeyedFunction f.old f.new (λ g. self.new ≡ begun g (C.image a.now) nonce.now)) ((self.new ≡ self.old) × (f.new ≡ f.old)) result }
     {
         if nonce.len() % 2 != 0 || nonce.len() > 32 {
             return Err(Fault::Nonce);
@@ -74,6 +83,7 @@ impl Registers {
     }
 
     /// Takes a plaintext word under its mask into both registers, and answers its wire word.
+    #[tactic(auto, using(crate::proofs::Asked::asked_then, crate::proofs::Words::mactext_is), unfolding(crate::specs::Cipher::taken, crate::specs::Cipher::wire_word, crate::specs::Cipher::masked, crate::specs::Cipher::ciphertext))]
     pub fn seal_word<K: KeyedFunction, C: Coefficient>(
         &mut self,
         f: &mut K,
@@ -81,10 +91,7 @@ impl Registers {
         mask: u16,
         plain: u16,
     ) -> u16
-        ensures value { K.sound f.old → result ≡ wire_word (keyed (K.table f.old)) (state self.old) mask plain }
-        ensures registers { K.sound f.old → state self.new ≡ taken (keyed (K.table f.old)) (C.image a.now) (state self.old) mask plain }
-        ensures mactext { K.sound f.old → MactextFromWire (keyed (K.table f.old)) (state self.old) mask plain result }
-        ensures kept { Kept (K.table f.old) (K.sound f.old) (K.table f.new) (K.sound f.new) }
+        ensures { Asked K.KeyedFunction f.old f.new (λ g. (result ≡ wire_word g self.old mask plain) × (self.new ≡ taken g (C.image a.now) self.old mask plain) × MactextFromWire g self.old mask plain result) }
     {
         let v = self.cipher.keystream(f);
         self.absorb(f, a, v, mask, plain);
@@ -92,6 +99,7 @@ impl Registers {
     }
 
     /// Takes a wire word under its mask into both registers, and answers its plaintext word.
+    // No twin of the one above: the word that is absorbed is another, and so is the law. Through `Direction` the two would be longer.
     pub fn open_word<K: KeyedFunction, C: Coefficient>(
         &mut self,
         f: &mut K,
@@ -99,10 +107,7 @@ impl Registers {
         mask: u16,
         wire: u16,
     ) -> u16
-        ensures value { K.sound f.old → result ≡ plain_word (keyed (K.table f.old)) (state self.old) mask wire }
-        ensures registers { K.sound f.old → state self.new ≡ taken (keyed (K.table f.old)) (C.image a.now) (state self.old) mask (plain_word (keyed (K.table f.old)) (state self.old) mask wire) }
-        ensures back { K.sound f.old → WordBack (keyed (K.table f.old)) (C.image a.now) (state self.old) mask wire result (state self.new) }
-        ensures kept { Kept (K.table f.old) (K.sound f.old) (K.table f.new) (K.sound f.new) }
+        ensures { Asked K.KeyedFunction f.old f.new (λ g. (result ≡ plain_word g self.old mask wire) × (self.new ≡ taken g (C.image a.now) self.old mask (plain_word g self.old mask wire)) × WordBack g (C.image a.now) self.old mask wire result self.new) }
     {
         let v = self.cipher.keystream(f);
         let plain = wire ^ (mask & v);
@@ -112,10 +117,8 @@ impl Registers {
 
     /// Closes the message and draws its tag: 0 is fed in, then c[16] down to c[0], then eight zeros, which are sealed to the tag.
     pub fn close<K: KeyedFunction>(&mut self, f: &mut K) -> [u16; 8]
-        ensures value { K.sound f.old → result ≡ tag (keyed (K.table f.old)) (state self.old) }
-        ensures registers { K.sound f.old → state self.new ≡ closed (keyed (K.table f.old)) (state self.old) }
-        ensures check { (state self.new).c ≡ (state self.old).c }
-        ensures kept { Kept (K.table f.old) (K.sound f.old) (K.table f.new) (K.sound f.new) }
+        ensures asked { Asked K.KeyedFunction f.old f.new (λ g. (result ≡ tag g self.old) × (self.new ≡ closed g self.old)) }
+        ensures check { self.new.c ≡ self.old.c }
     {
         let _ = self.cipher.feed(f, 0);
         self.feed_check(f);
@@ -123,6 +126,7 @@ impl Registers {
     }
 
     /// One plaintext word into both registers, where `v` is its keystream word.
+    #[tactic(auto, using(crate::proofs::Asked::asked_so, crate::proofs::States::same_state), unfolding(crate::specs::Cipher::mactext, crate::specs::Cipher::complement))]
     fn absorb<K: KeyedFunction, C: Coefficient>(
         &mut self,
         f: &mut K,
@@ -131,9 +135,7 @@ impl Registers {
         mask: u16,
         plain: u16,
     )
-        ensures cipher { K.sound f.old → window self.new.cipher.cells ≡ step (keyed (K.table f.old)) (window self.old.cipher.cells) (bit_xor plain v) }
-        ensures check { window self.new.check.cells ≡ check_step (C.image a.now) (window self.old.check.cells) (mactext mask v plain) }
-        ensures kept { Kept (K.table f.old) (K.sound f.old) (K.table f.new) (K.sound f.new) }
+        ensures { Asked K.KeyedFunction f.old f.new (λ g. self.new ≡ record { r = step g self.old.r (bit_xor plain v); c = check_step (C.image a.now) self.old.c (mactext mask v plain) }) }
     {
         self.cipher.step(f, plain ^ v);
         self.check.step(a, plain ^ (!mask & v));
@@ -141,19 +143,18 @@ impl Registers {
 
     /// Each nonce word in turn.
     fn take_nonce<K: KeyedFunction, C: Coefficient>(&mut self, f: &mut K, a: &C, nonce: &[u8])
-        ensures registers { K.sound f.old → state self.new ≡ nonces_taken (keyed (K.table f.old)) (C.image a.now) (state self.old) (words_of nonce.now) }
-        ensures kept { Kept (K.table f.old) (K.sound f.old) (K.table f.new) (K.sound f.new) }
+        ensures { Asked K.KeyedFunction f.old f.new (λ g. self.new ≡ nonces_taken g (C.image a.now) self.old (words_of nonce.now)) }
     {
-        for i in 0..nonce.len() / 2 {
-            let word = u16::from_le_bytes([nonce[2 * i], nonce[2 * i + 1]]);
-            self.take_nonce_word(f, a, word);
+        let (pairs, _) = nonce.as_chunks::<2>();
+        for pair in pairs {
+            self.take_nonce_word(f, a, u16::from_le_bytes(*pair));
         }
     }
 
     /// One nonce word, as a sealed word that was received.
+    #[tactic(auto, using(crate::proofs::Asked::asked_then, crate::proofs::States::same_state), unfolding(crate::specs::Cipher::nonce_taken))]
     fn take_nonce_word<K: KeyedFunction, C: Coefficient>(&mut self, f: &mut K, a: &C, word: u16)
-        ensures registers { K.sound f.old → state self.new ≡ nonce_taken (keyed (K.table f.old)) (C.image a.now) (state self.old) word }
-        ensures kept { Kept (K.table f.old) (K.sound f.old) (K.table f.new) (K.sound f.new) }
+        ensures { Asked K.KeyedFunction f.old f.new (λ g. self.new ≡ nonce_taken g (C.image a.now) self.old word) }
     {
         let v = self.cipher.keystream(f);
         self.check.step(a, word ^ v);
@@ -162,8 +163,7 @@ impl Registers {
 
     /// Seventeen open words with plaintext 0.
     fn take_open_zeros<K: KeyedFunction, C: Coefficient>(&mut self, f: &mut K, a: &C)
-        ensures registers { K.sound f.old → state self.new ≡ open_zeros (keyed (K.table f.old)) (C.image a.now) 17 (state self.old) }
-        ensures kept { Kept (K.table f.old) (K.sound f.old) (K.table f.new) (K.sound f.new) }
+        ensures { Asked K.KeyedFunction f.old f.new (λ g. self.new ≡ open_zeros g (C.image a.now) 17 self.old) }
     {
         for _ in 0..17u8 {
             let _ = self.seal_word(f, a, 0, 0);
@@ -172,12 +172,13 @@ impl Registers {
 
     /// Feeds the check words into the cipher register, c[16] down to c[0].
     fn feed_check<K: KeyedFunction>(&mut self, f: &mut K)
-        ensures cipher { K.sound f.old → window self.new.cipher.cells ≡ all_fed (keyed (K.table f.old)) (window self.old.cipher.cells) (reverse (window self.old.check.cells)) }
-        ensures check { window self.new.check.cells ≡ window self.old.check.cells }
-        ensures kept { Kept (K.table f.old) (K.sound f.old) (K.table f.new) (K.sound f.new) }
+        ensures asked { Asked K.KeyedFunction f.old f.new (λ g. self.new.r ≡ all_fed g self.old.r (reverse self.old.c)) }
+        ensures check { self.new.c ≡ self.old.c }
     {
-        for i in (0..17).rev() {
-            let _ = self.cipher.feed(f, self.check.at(i));
+        let mut words = self.check.words();
+        words.reverse();
+        for word in &words {
+            let _ = self.cipher.feed(f, *word);
         }
     }
 }

@@ -1,15 +1,10 @@
-use Rattle.std.proofs.Common.{◌≡◌, ◌*◌, drop}
-use Rattle.sss.specs.Cipher.{keyed, nonces_taken, words_of}
-use Rattle.sss.specs.Kept.{Kept}
-use Rattle.sss.specs.Registers.{state}
+use Rattle.std.proofs.Common.{◌≡◌, drop}
+use Rattle.sss.specs.Asked.{Asked}
+use Rattle.sss.proofs.Beginning.{pairs_taken}
 use Rattle.sss.proofs.registers.Registers.take_nonce.Given as goal
 
 -- What is left of the nonce leads to the end.
-abbrev pub invariant-loop-i : goal.invariant-loop-i
-invariant-loop-i g l =
-    let m = g.K.KeyedFunction in
-    let f = keyed (m.table l.initial.f) in
+abbrev pub invariant-loop-pair : goal.invariant-loop-pair
+invariant-loop-pair g l =
     let A = g.C.Coefficient.image l.a in
-    (m.sound l.initial.f →
-    nonces_taken f A (state l.self) (words_of (drop (2 * l.i) l.nonce)) ≡ nonces_taken f A (state l.initial.self) (words_of l.nonce)) ×
-    Kept (m.table l.initial.f) (m.sound l.initial.f) (m.table l.f) (m.sound l.f)
+    Asked g.K.KeyedFunction l.initial.f l.f (λ f. pairs_taken f A l.self (drop l.pair-index l.pairs) ≡ pairs_taken f A l.initial.self l.pairs)

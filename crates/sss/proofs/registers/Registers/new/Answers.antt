@@ -1,7 +1,0 @@
-use Rattle.sss.specs.Cipher.{zeroed}
-use Rattle.sss.specs.Registers.{state}
-use Rattle.sss.proofs.registers.Registers.new.Goals as goal
-
-pub returns : goal.returns
-unfolding state zeroed
-returns c = cc
