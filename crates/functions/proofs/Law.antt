@@ -1,9 +1,10 @@
 -- The law of a keyed function: how a table is tested for it.
-use Rattle.std.proofs.Common.{◌≡◌, ℕ, zero, suc, ◌+◌, ◌/◌, ◌<◌, Bool, true, false, ◌≢◌, List, length, get_or, set, replicate, sym, refl, ap, ◌∙◌, inl, inr, arith}
+use Rattle.std.proofs.Common.{◌≡◌, ℕ, ◌+◌, ◌/◌, ◌<◌, Bool, true, false, ◌≢◌, List, length, get_or, set, replicate, sym, refl, ap, ◌∙◌, inl, inr, arith}
 use lib.Bits.{bit_xor}
 use Rattle.std.proofs.lemmas.List.{get_or-set_same, get_or-set_other, length-set}
 use Rattle.std.proofs.lemmas.Bool.{cases_eq, cases_lt, true≢false}
 use Rattle.sss.specs.Cipher.{Lawful}
+use Rattle.functions.proofs.Arrays.{blank_at}
 
 -- The byte that the law asks to differ from entry to entry.
 abbrev pub byte_at : List ℕ → ℕ → ℕ
@@ -16,16 +17,11 @@ pub record Seen (S : List ℕ) (seen : List Bool) (n : ℕ) : Type 0 where
   pub only : (b : ℕ) → get_or seen b false ≡ true → (j : ℕ) × (j < n) × (byte_at S j ≡ b)
   pub apart : (i j : ℕ) → i < n → j < n → byte_at S i ≡ byte_at S j → i ≡ j
 
-unseen : (b n : ℕ) → get_or (replicate n false) b false ≡ false
-unseen b zero = refl
-unseen zero (suc n) = refl
-unseen (suc b) (suc n) = unseen b n
-
 pub seen_none : (S : List ℕ) → Seen S (replicate 256 false) 0
 seen_none S = record {
   long = refl;
   noted = λ j h. absurd (omega arith);
-  only = λ b e. absurd (true≢false (sym e ∙ unseen b 256));
+  only = λ b e. absurd (true≢false (sym e ∙ blank_at false 256 b));
   apart = λ i j h l e. absurd (omega arith);
 }
 

@@ -1,3 +1,4 @@
+pub mod Arrays
 pub mod Keys
 pub mod Law
 pub mod Remembered

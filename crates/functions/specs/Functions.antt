@@ -1,13 +1,13 @@
 -- What each implementation of the keyed function means, and what loading does to it.
-use Rattle.std.specs.Prelude.{◌≡◌, ℕ, List, take, Some, None, Ok, Err, Option, Result, slice_index, slice_index_or}
+use Rattle.std.specs.Prelude.{◌≡◌, ℕ, List, Some, None, Ok, Err, Option, Result, slice_index, slice_index_or}
 use Rattle.sss.specs.Cipher.{Lawful, key_table}
 use Rattle.sss.specs.declared.Fault.{Fault}
 use Rattle.functions.specs.declared.lazy.LazyTable.{LazyTable}
 use Rattle.functions.specs.declared.from_key.FromKey.{FromKey}
 
 -- The table of the key that is loaded. Of no key it is all zero.
-unfoldable pub from_key_table : FromKey → List ℕ
-from_key_table k = key_table (take k.length k.key)
+abbrev pub from_key_table : FromKey → List ℕ
+from_key_table k = key_table k.key.bytes.items
 
 -- Loading: what fits is taken, and the function is then sound with the table given; all else is refused, and the old function stays.
 abbrev pub Loads : {F : Type 0} → (F → List ℕ) → Type 0 → List ℕ → Fault → F → Result (Unit {0}) Fault → F → Type 0

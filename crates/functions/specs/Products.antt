@@ -24,6 +24,7 @@ times_z_high a w h =
     sym (cond-false (nat_lt a 32768) (a * 2) (bit_xor (a * 2) 0x1500F) (le-ltb a 32768 h) ∙
     ap (λ (y : ℕ). bit_xor y 0x1500F) split ∙ block ∙ omega arith)
 
+-- A power of z, one factor at a time.
 pub times_z_power_more : (n a : ℕ) → 0 < n → times_z_power n a ≡ times_z_power (n - 1) (times_z a)
 unfolding times_z_power
 times_z_power_more zero a h = absurd (omega arith)

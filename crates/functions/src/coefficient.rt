@@ -1,10 +1,9 @@
 //! Two implementations of the coefficient of the check register.
-ghost use Rattle.std.specs.Prelude.{◌≡◌, ◌*◌, ◌%◌};
+ghost use Rattle.std.specs.Prelude.{◌≡◌};
 ghost use Rattle.sss.specs.Cipher.{product, times_z};
 ghost use Rattle.functions.specs.Products.{product_one_to_one};
 
-use crate::key::high_byte;
-use crate::tables::printed_product;
+use crate::tables::{high_byte, printed_product};
 use sss::Coefficient;
 
 /// The coefficient by the printed table: `(low byte × 256) ⊕ T[high byte]`.
@@ -17,7 +16,7 @@ impl Coefficient for PrintedTable {
     ghost lawful = { λ _. product_one_to_one };
 
     fn multiply(&self, a: u16) -> u16 {
-        shifted(a) ^ printed_product(high_byte(a))
+        (a << 8) ^ printed_product(high_byte(a))
     }
 }
 
@@ -32,22 +31,13 @@ impl Coefficient for FieldRule {
     ghost lawful = { λ _. product_one_to_one };
 
     fn multiply(&self, a: u16) -> u16 {
-        let mut power = u16::from(high_byte(a));
-        for _ in 0..16u8 {
-            power = times_z(power);
-        }
-        shifted(a) ^ power
+        let product = (0..16u8).fold(u16::from(high_byte(a)), |power, _| times_z(power));
+        (a << 8) ^ product
     }
 }
 
-/// The low byte of a word, moved to the high byte.
-fn shifted(a: u16) -> u16
-    ensures { result ≡ a % 256 * 256 }
-{
-    (a & 0xFF) << 8
-}
-
 /// A word times z.
+#[tactic(auto, using(crate::specs::Products::times_z_low, crate::specs::Products::times_z_high))]
 fn times_z(a: u16) -> u16
     ensures { result ≡ times_z a }
 {

@@ -4,8 +4,10 @@ ghost use Rattle.sss.specs.Cipher.{keyed};
 ghost use Rattle.functions.specs.Functions.{LazySound};
 ghost use Rattle.sss.specs.Kept.{Kept};
 
-use crate::key::high_byte;
+use crate::tables::high_byte;
 use sss::KeyedFunction;
+
+// `LazySound` stays in the clauses: as a ghost field it would ask more of callers, since each holder of a lazy table would need the bound on `K`.
 
 /// Remembers the entries already worked out by any keyed function, another lazy table too.
 #[derive(Drop)]

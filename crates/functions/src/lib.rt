@@ -3,16 +3,15 @@
 
 mod coefficient;
 mod figures;
-mod filled;
 mod from_key;
 mod given;
 mod key;
 mod lazy;
+mod table;
 mod tables;
 
 pub use coefficient::{FieldRule, PrintedTable};
 pub use figures::self_test;
-pub use filled::FilledTable;
 pub use from_key::FromKey;
-pub use given::GivenTable;
 pub use lazy::LazyTable;
+pub use table::{Filled, FilledTable, Given, GivenTable, Table};

@@ -1,5 +1,5 @@
 //! The three fixed tables of SSS, as printed with the cipher, and a look-up in each.
-ghost use Rattle.std.specs.Prelude.{◌≡◌, slice_index};
+ghost use Rattle.std.specs.Prelude.{◌≡◌, ◌/◌, slice_index};
 ghost use Rattle.sss.specs.Cipher.{times_z_power};
 ghost use Rattle.sss.specs.Tables.{products as product_table, qbox as qbox_table, skipjack as skipjack_table};
 
@@ -74,6 +74,16 @@ const PRODUCTS: [u16; 256] = [
     0x3415, 0x641A, 0x940B, 0xC404, 0x2426, 0x7429, 0x8438, 0xD437, 0x1473, 0x447C, 0xB46D, 0xE462,
     0x0440, 0x544F, 0xA45E, 0xF451,
 ];
+
+/// The high byte of a word: the place of its entry in a table.
+pub(crate) fn high_byte(a: u16) -> u8
+    ensures { result ≡ a / 256 }
+{
+    let [high, _] = a.to_be_bytes();
+    high
+}
+
+// Each of these ties one table to the published one. A generic look-up would need the same three, each of no fewer lines.
 
 /// The byte of Skipjack's F table at `b`.
 pub(crate) fn skipjack(b: u8) -> u8

@@ -1,11 +1,11 @@
-use Rattle.std.proofs.Common.{◌∙◌}
-use Rattle.std.proofs.lemmas.Bool.{eq-eqb, and_from}
-use Rattle.functions.proofs.KnownFigures.{figure}
+use Rattle.std.proofs.Common.{◌≡◌, true, ap, Ok}
+use Rattle.std.proofs.lemmas.Bool.{and_from}
+use Rattle.functions.proofs.KnownFigures.{word_figure}
 use Rattle.functions.proofs.figures.word_figures.Goals as goal
 
 pub returns : goal.returns
 returns c =
-    let first = c.word_is.ensures ∙ and_from _ _ (eq-eqb _ _ (figure 9 0)) (eq-eqb _ _ (figure 9 1)) in
-    let second = c.word_is-2.ensures ∙ and_from _ _ (eq-eqb _ _ (figure 10 0)) (eq-eqb _ _ (figure 10 1)) in
-    let third = c.word_is-3.ensures ∙ and_from _ _ (eq-eqb _ _ (figure 11 0)) (eq-eqb _ _ (figure 11 1)) in
-    and_from _ _ (and_from _ _ first second) third
+    let first : c.in_ok-word_is.field-0 ≡ true = cc (c.in_ok-word_is.was, word_figure 9) in
+    let second : c.in_ok-word_is-2.field-0 ≡ true = cc (c.in_ok-word_is-2.was, word_figure 10) in
+    let third : c.in_ok-word_is-3.field-0 ≡ true = cc (c.in_ok-word_is-3.was, word_figure 11) in
+    ap Ok (and_from _ _ (and_from _ _ first second) third)

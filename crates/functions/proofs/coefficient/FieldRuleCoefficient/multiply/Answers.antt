@@ -1,21 +1,23 @@
-use Rattle.std.proofs.Common.{◌≡◌, ℕ, ◌+◌, ◌-◌, ◌/◌, sym, ap, ◌∙◌, arith}
-use Rattle.sss.specs.Cipher.{times_z_power}
-use Rattle.functions.specs.Products.{times_z_power_more, times_z_power_none, product_by_rule}
+use Rattle.std.proofs.Common.{◌≡◌, ℕ, ◌%◌, ◌*◌, fold, refl, ap, ◌∙◌, sym, arith, rules}
+use Rattle.std.proofs.iter.Yields.{nat_range_steps}
+use Rattle.std.proofs.lemmas.Fn.{fold_over}
+use Rattle.std.proofs.lemmas.Iterator.{YieldsList-from_range}
+use Rattle.std.proofs.lemmas.List.Sums.{fold_push}
+use Rattle.std.specs.List.{range_with_len}
+use Rattle.sss.specs.Cipher.{times_z, times_z_power}
+use Rattle.functions.specs.Products.{product_by_rule}
 use Rattle.functions.proofs.coefficient.FieldRuleCoefficient.multiply.Goals as goal
 
-pub loop-init : goal.loop-init
-loop-init c = ap (times_z_power 16) (c.from-power.ensures ∙ c.high_byte.ensures)
-
-pub loop-preserved : goal.loop-preserved
-loop-preserved c =
-    let n : ℕ = 16 - c.loop.counter in
-    let left : 16 - (c.loop.counter + 1) ≡ n - 1 = omega arith in
-    ap (λ (k : ℕ). times_z_power k c.times_z-power.result) left ∙ ap (times_z_power (n - 1)) c.times_z-power.ensures ∙
-    sym (times_z_power_more n c.loop.power (omega arith)) ∙ c.loop.invariant
-
 pub returns : goal.returns
+unfolding times_z_power
 returns c =
     let a = c.args.a in
-    let power : c.loop.power ≡ times_z_power 16 (a / 256) =
-    sym (times_z_power_none (16 - c.loop.counter) c.loop.power (omega arith)) ∙ c.loop.invariant in
-    cc (c.shifted.ensures, product_by_rule a c.ranges.a.fits)
+    let by_z : ℕ → ℕ → ℕ = λ p _. times_z p in
+    let power : c.fold-product.result ≡ times_z_power 16 c.from.result =
+    fold_over nat_range_steps (λ x. x) _ (λ xs p. p ≡ fold by_z c.from.result xs) _
+    (λ xs p x q f before called.
+    let said : q ≡ times_z p = search rules in
+    (said ∙ ap times_z before ∙ sym (fold_push by_z c.from.result xs x), search rules))
+    (record { start = 0; end = 16 }) (range_with_len 0 16) _ _ (YieldsList-from_range 0 16 16 refl refl).runs refl c.fold-product.ensures.ran in
+    let high : a * 256 % 65536 ≡ a % 256 * 256 = omega arith in
+    cc (product_by_rule a c.ranges.a.fits)

@@ -1,4 +1,4 @@
-use Rattle.std.proofs.Common.{ℕ, get_or, ap, ◌∙◌}
+use Rattle.std.proofs.Common.{◌≡◌, ℕ, ◌%◌, ◌*◌, get_or, ap, ◌∙◌, arith}
 use Rattle.sss.specs.Tables.{products}
 use Rattle.sss.specs.Cipher.{product}
 use Rattle.functions.proofs.coefficient.PrintedTableCoefficient.multiply.Goals as goal
@@ -7,4 +7,5 @@ pub returns : goal.returns
 unfolding product
 returns c =
     let entry = c.printed_product.ensures.value ∙ ap (λ (i : ℕ). get_or products i 0) c.high_byte.ensures in
-    cc c.shifted.ensures
+    let high : c.args.a * 256 % 65536 ≡ c.args.a % 256 * 256 = omega arith in
+    cc
