@@ -8,6 +8,7 @@ use Rattle.sss.specs.declared.Fault.{Fault}
 use Rattle.sss.specs.declared.Fault.TheVariants.{Full}
 use Rattle.link.specs.Ends.{Sealing, in_message, sealer_made, Receiving, receiver_made, nonce_taken, made, one_call}
 use Rattle.link.specs.declared.call.SealerCall.{SealerCall}
+use Rattle.link.specs.declared.issuer.Nonce.{Nonce}
 use Rattle.link.specs.declared.call.SealerCall.TheVariants.{Word as Seal}
 use Rattle.link.specs.declared.call.ReceiverCall.{ReceiverCall}
 use Rattle.link.specs.declared.call.Call.TheVariants.{OnSealer, OnReceiver}
@@ -46,7 +47,7 @@ bytes_fit bs h = All-from_get_or (λ b. b < 256) bs 0 (λ i l. h i)
 
 -- A call on either end, noted in the log.
 module _ (f A f' A' : ℕ → ℕ) (s s' : Sealing) (r r' : Receiving) (log items : List Entry) where
-  pub sealer_noted : (x : SealerCall) (e : SealerEntry) → (s', e) ≡ sealer_made f A s x → items ≡ log ++ OfSealer e ∷ [] →
+  pub sealer_noted : (x : SealerCall Nonce) (e : SealerEntry) → (s', e) ≡ sealer_made f A s x → items ≡ log ++ OfSealer e ∷ [] →
       (record { sealer = s'; receiver = r }, items) ≡ one_call f A f' A' (record { sealer = s; receiver = r }, log) (OnSealer x)
   unfolding made
   sealer_noted x e one added =

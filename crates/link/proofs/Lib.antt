@@ -1,4 +1,5 @@
 pub mod Verdicts
+pub mod Engines
 pub mod Calls
 pub mod Register
 pub mod Received

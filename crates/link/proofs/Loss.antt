@@ -11,6 +11,7 @@ use Rattle.link.specs.Law.{Law, Published, Unbroken}
 use Rattle.link.specs.declared.reception.Event.TheVariants as event
 use Rattle.link.specs.declared.reception.Verdict.{Verdict}
 use Rattle.link.specs.declared.call.SealerCall.{SealerCall}
+use Rattle.link.specs.declared.issuer.Nonce.{Nonce as IssuedNonce}
 use Rattle.link.specs.declared.call.SealerCall.TheVariants.{Begin, Word as Seal, Finish, Abandon}
 use Rattle.link.specs.declared.call.ReceiverCall.{ReceiverCall}
 use Rattle.link.specs.declared.call.ReceiverCall.TheVariants.{Begin as Hear, Word as Take, Break, Finish as End}
@@ -36,7 +37,7 @@ use Rattle.link.proofs.Judging.{judged}
 
 -- A tag in the log comes from a finish while a message is open: it is drawn from the registers as they were.
 module _ (f A : ℕ → ℕ) where
-  tag_drawn : (s : Sealing) (x : SealerCall) (t : List ℕ) (ms : List Message) (since : Since Sent) → OpenAt f A s ms since →
+  tag_drawn : (s : Sealing) (x : SealerCall IssuedNonce) (t : List ℕ) (ms : List Message) (since : Since Sent) → OpenAt f A s ms since →
       (sealer_made f A s x).1 ≡ Finished t →
       ((m : Message) × (earlier : List Message) × (ms ≡ m ∷ earlier) × (since ≡ record { start = Some m.nonce; words = m.words })) ×
       (t ≡ tag f (registers_of s))

@@ -11,6 +11,7 @@ use Rattle.link.specs.Ends.{Sealing, ready, in_message, sealer_made, SealerCallF
 use Rattle.link.specs.Log.{Sent, Message, sent_too, message_noted, Since, one_more, sent_noted, plain_of, wire_of, start_of}
 use Rattle.link.specs.declared.issuer.Nonce.{Nonce}
 use Rattle.link.specs.declared.call.SealerCall.{SealerCall}
+use Rattle.link.specs.declared.issuer.Nonce.{Nonce}
 use Rattle.link.specs.declared.call.SealerCall.TheVariants.{Begin, Word as Seal, Finish, Abandon}
 use Rattle.link.specs.declared.call.SealerEntry.{SealerEntry}
 use Rattle.link.specs.declared.call.SealerEntry.TheVariants as sealer_entry
@@ -98,7 +99,7 @@ module _ (f A : ℕ → ℕ) (onef : OneToOne f) (oneA : OneToOne A) where
       }
 
   -- What holds of the sealer holds after each call on it.
-  pub sealer_keeps : (s : Sealing) (ms : List Message) (since : Since Sent) (x : SealerCall) → SealerCallFits x → SealerGood f A s ms since →
+  pub sealer_keeps : (s : Sealing) (ms : List Message) (since : Since Sent) (x : SealerCall Nonce) → SealerCallFits x → SealerGood f A s ms since →
       (let o = sealer_made f A s x in SealerGood f A o.0 (message_noted o.1 ms) (sent_noted since o.1))
   unfolding sealer_made all_received
   sealer_keeps (ready g) ms since (Begin n) fits h =

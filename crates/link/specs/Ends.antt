@@ -2,10 +2,11 @@
 use Rattle.std.specs.Prelude.{ℕ, ◌+◌, ◌%◌, ◌<◌, Bool, cond, ◌&&◌, List, [], ◌∷◌, ◌++◌, length, vec_items, fold, ◌==◌, nat_le, nat_lt}
 use Rattle.std.specs.List.{AllByRecursion as Every}
 use Rattle.sss.specs.Cipher.{State, Word, begun, plain_word, tag, taken, wire_word, zeroed}
-use Rattle.sss.specs.Registers.{state}
-use Rattle.sss.specs.declared.Fault.TheVariants.{Nonce, Full}
+use Rattle.sss.specs.declared.Fault.TheVariants.{Nonce as UnfitNonce, Full}
 use Rattle.link.specs.Issuing.{nonce_bytes}
 use Rattle.link.specs.Receiving.{decided, answer_of, verdict_of}
+use Rattle.link.specs.declared.engine.Engine.{Engine}
+use Rattle.link.specs.declared.issuer.Nonce.{Nonce}
 use Rattle.link.specs.declared.call.SealerCall.{SealerCall}
 use Rattle.link.specs.declared.call.SealerCall.TheVariants.{Begin, Word as Seal, Finish, Abandon}
 use Rattle.link.specs.declared.call.ReceiverCall.{ReceiverCall}
@@ -14,7 +15,6 @@ use Rattle.link.specs.declared.call.Call.{Call}
 use Rattle.link.specs.declared.call.Call.TheVariants.{OnSealer, OnReceiver}
 use Rattle.link.specs.declared.call.Entry.{Entry}
 use Rattle.link.specs.declared.call.Entry.TheVariants.{OfSealer, OfReceiver}
-use Rattle.link.specs.declared.call.Unmade.TheVariants as unmade
 use Rattle.link.specs.declared.call.SealerEntry.{SealerEntry}
 use Rattle.link.specs.declared.call.SealerEntry.TheVariants as sealer_entry
 use Rattle.link.specs.declared.call.ReceiverEntry.{ReceiverEntry}
@@ -43,30 +43,25 @@ pub record Receiving : Type 0 where
 
 -- The sealer of the code by its state and registers.
 abbrev pub sealing : {K C : Type 0} → Sealer K C → Sealing
-sealing (Ready s) = ready (state s.registers)
-sealing (Open m) = in_message m.words (state m.registers)
+sealing (Ready s) = ready s.engine.registers
+sealing (Open m) = in_message m.words m.engine.registers
 
 -- The receiver of the code by its state and registers.
 abbrev pub receiving : {K C : Type 0} → Receiver K C → Receiving
-receiving r = record { reception = r.reception; registers = state r.registers }
+receiving r = record { reception = r.footing.reception; registers = r.engine.registers }
 
--- The sealer's keyed function, whichever state it is in.
-abbrev pub sealer_function : {K C : Type 0} → Sealer K C → K
-sealer_function (Ready s) = s.function
-sealer_function (Open m) = m.function
-
--- The sealer's coefficient, whichever state it is in.
-abbrev pub sealer_coefficient : {K C : Type 0} → Sealer K C → C
-sealer_coefficient (Ready s) = s.coefficient
-sealer_coefficient (Open m) = m.coefficient
+-- The sealer's engine, whichever state it is in.
+abbrev pub sealer_engine : {K C : Type 0} → Sealer K C → Engine K C
+sealer_engine (Ready s) = s.engine
+sealer_engine (Open m) = m.engine
 
 -- A call on the sealer: where it then stands, and what the log notes.
-unfoldable pub sealer_made : (ℕ → ℕ) → (ℕ → ℕ) → Sealing → SealerCall → Sealing × SealerEntry
+unfoldable pub sealer_made : (ℕ → ℕ) → (ℕ → ℕ) → Sealing → SealerCall Nonce → Sealing × SealerEntry
 sealer_made f A (ready g) (Begin n) = (in_message 0 (begun f A (nonce_bytes n)), sealer_entry.Begun (nonce_bytes n))
-sealer_made f A (ready g) (Seal mask p) = (ready g, sealer_entry.OutOfTurn (unmade.Word mask p))
-sealer_made f A (ready g) Finish = (ready g, sealer_entry.OutOfTurn unmade.Finish)
-sealer_made f A (ready g) Abandon = (ready g, sealer_entry.OutOfTurn unmade.Abandon)
-sealer_made f A (in_message n g) (Begin k) = (in_message n g, sealer_entry.OutOfTurn (unmade.Begin (nonce_bytes k)))
+sealer_made f A (ready g) (Seal mask p) = (ready g, sealer_entry.OutOfTurn (Seal mask p))
+sealer_made f A (ready g) Finish = (ready g, sealer_entry.OutOfTurn Finish)
+sealer_made f A (ready g) Abandon = (ready g, sealer_entry.OutOfTurn Abandon)
+sealer_made f A (in_message n g) (Begin k) = (in_message n g, sealer_entry.OutOfTurn (Begin (nonce_bytes k)))
 sealer_made f A (in_message n g) (Seal mask p) =
     cond (nat_lt n 65536) (in_message (n + 1) (taken f A g mask p), sealer_entry.Sealed mask p (wire_word f g mask p))
     (in_message n g, sealer_entry.Refused mask p Full)
@@ -82,7 +77,7 @@ unfoldable pub receiver_made : (ℕ → ℕ) → (ℕ → ℕ) → Receiving →
 receiver_made f A s (Hear nonce) =
     cond (nonce_taken (vec_items nonce))
     (record { reception = (decided s.reception event.Begin).0; registers = begun f A (vec_items nonce) }, receiver_entry.Begun nonce)
-    (s, receiver_entry.Refused nonce Nonce)
+    (s, receiver_entry.Refused nonce UnfitNonce)
 receiver_made f A s (Take mask m) =
     let p : ℕ = plain_word f s.registers mask m in
     let d = decided s.reception (event.Word mask) in
@@ -120,7 +115,7 @@ unfoldable pub history : (f A f' A' : ℕ → ℕ) → List Call → Ends × Lis
 history f A f' A' calls = fold (one_call f A f' A') (new_ends, []) calls
 
 -- The numbers of a call fit their types: a plaintext is a word.
-abbrev pub SealerCallFits : SealerCall → Type 0
+abbrev pub SealerCallFits : SealerCall Nonce → Type 0
 SealerCallFits (Begin n) = Unit {0}
 SealerCallFits (Seal mask p) = Word p
 SealerCallFits Finish = Unit {0}

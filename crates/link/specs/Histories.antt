@@ -2,11 +2,12 @@
 -- what the receiver's mean.
 use Rattle.std.specs.Prelude.{◌≡◌, ◌+◌, ◌≤◌, List, vec_items, vec_len, vec_capacity, Vec}
 use Rattle.std.specs.declared.alloc.Global.{Global}
+use Rattle.sss.specs.Asked.{Keeps}
 use Rattle.sss.specs.declared.keyed.KeyedFunction.{Ghosts as Keyed}
 use Rattle.sss.specs.declared.coefficient.Coefficient.{Ghosts as Linear}
-use Rattle.link.specs.Ends.{Ends, history, one_call, receiving, registers_of, sealer_coefficient, sealer_function, sealing}
+use Rattle.link.specs.Ends.{Ends, history, one_call, receiving, registers_of, sealer_engine, sealing}
 use Rattle.link.specs.Law.{Law}
-use Rattle.link.specs.Meaning.{Keeps, function_of}
+use Rattle.link.specs.Meaning.{function_of}
 use Rattle.link.specs.declared.call.Call.{Call}
 use Rattle.link.specs.declared.call.Entry.{Entry}
 use Rattle.link.specs.declared.history.History.{History}
@@ -24,18 +25,18 @@ module _ {SK SC RK RC : Type 0} where
   module _ (F : Keyed SK) (L : Linear SC) (G : Keyed RK) (M : Linear RC) where
     -- The functions of two histories mean the same, and their coefficients are the same.
     pub record SameMeaning (s : SK) (a : SC) (r : RK) (b : RC) (h : History SK SC RK RC) : Type 0 where
-      pub sealer : Keeps F s (sealer_function h.sealer)
-      pub sealer_same : sealer_coefficient h.sealer ≡ a
-      pub receiver : Keeps G r h.receiver.function
-      pub receiver_same : h.receiver.coefficient ≡ b
+      pub sealer : Keeps F s (sealer_engine h.sealer).function
+      pub sealer_same : (sealer_engine h.sealer).coefficient ≡ a
+      pub receiver : Keeps G r h.receiver.engine.function
+      pub receiver_same : h.receiver.engine.coefficient ≡ b
 
     -- One call more, where both functions are sound.
     abbrev pub OneMore : History SK SC RK RC → Call → History SK SC RK RC → Type 0
     OneMore h call h' =
-        let s = sealer_function h.sealer in
-        let r = h.receiver.function in
+        let s = (sealer_engine h.sealer).function in
+        let r = h.receiver.engine.function in
         F.sound s → G.sound r →
-        after h' ≡ one_call (function_of F s) (L.image (sealer_coefficient h.sealer)) (function_of G r) (M.image h.receiver.coefficient) (after h) call
+        after h' ≡ one_call (function_of F s) (L.image (sealer_engine h.sealer).coefficient) (function_of G r) (M.image h.receiver.engine.coefficient) (after h) call
 
     -- The history of a list of calls on two new ends, where both functions are sound.
     abbrev pub IsHistory : SK × SC → RK × RC → List Call → History SK SC RK RC → Type 0

@@ -1,4 +1,5 @@
 pub mod Meaning
+pub mod Engines
 pub mod Issuing
 pub mod Sealing
 pub mod Receiving

@@ -3,11 +3,11 @@ use crate::issuer::Nonce;
 use crate::reception::{Answer, Verdict};
 use sss::Fault;
 
-/// A call on the sealer.
-#[derive(Drop)]
-pub enum SealerCall {
+/// A call on the sealer, where a nonce is an `N`.
+#[derive(Clone, Copy, PartialEq, Eq, Debug)]
+pub enum SealerCall<N = Nonce> {
     /// Begins a message with this nonce.
-    Begin(Nonce),
+    Begin(N),
     /// Seals a word.
     Word { mask: u16, plain: u16 },
     /// Closes the message with a tag.
@@ -36,17 +36,11 @@ pub enum Call {
     OnReceiver(ReceiverCall),
 }
 
-/// A call on the sealer that was not made, as the log notes it.
-#[derive(Clone, Copy)]
-pub enum Unmade {
-    Begin([u8; 6]),
-    Word { mask: u16, plain: u16 },
-    Finish,
-    Abandon,
-}
+/// A call on the sealer that was not made, as the log notes it: with the bytes of its nonce.
+pub type Unmade = SealerCall<[u8; 6]>;
 
 /// A call on the sealer with what came of it.
-#[derive(Clone, Copy)]
+#[derive(Clone, Copy, PartialEq, Eq, Debug)]
 pub enum SealerEntry {
     /// A message was begun with this nonce.
     Begun([u8; 6]),
@@ -63,7 +57,7 @@ pub enum SealerEntry {
 }
 
 /// A call on the receiver with what came of it.
-#[derive(Drop)]
+#[derive(PartialEq, Eq, Debug, Drop)]
 pub enum ReceiverEntry {
     /// A message was begun with these nonce bytes.
     Begun(Vec<u8>),
@@ -88,7 +82,7 @@ pub enum ReceiverEntry {
 }
 
 /// A call on either end with what came of it.
-#[derive(Drop)]
+#[derive(PartialEq, Eq, Debug, Drop)]
 pub enum Entry {
     OfSealer(SealerEntry),
     OfReceiver(ReceiverEntry),

@@ -1,7 +1,7 @@
 //! Either end of a link by its calls: whatever the state and the call, one answer for the log.
 ghost use Rattle.std.specs.Prelude.{◌≡◌};
-ghost use Rattle.link.specs.Ends.{ReceiverCallFits, SealerCallFits, receiver_made, receiving, sealer_coefficient, sealer_function, sealer_made, sealing};
-ghost use Rattle.link.specs.Meaning.{Keeps, function_of};
+ghost use Rattle.link.specs.Ends.{ReceiverCallFits, SealerCallFits, receiver_made, receiving, sealer_engine, sealer_made, sealing};
+ghost use Rattle.link.specs.Engines.{Worked};
 
 use crate::call::{ReceiverCall, ReceiverEntry, SealerCall, SealerEntry, Unmade};
 use crate::receiver::Receiver;
@@ -18,9 +18,7 @@ pub enum Sealer<K, C> {
 impl<K: KeyedFunction, C: Coefficient> Sealer<K, C> {
     /// Makes a call. A begin while a message is open, and any other call while none is, is out of turn and not made.
     pub fn take(self, call: SealerCall) -> (Self, SealerEntry)
-        ensures value { K.sound (sealer_function self) → (sealing result.0, result.1) ≡ sealer_made (function_of K.KeyedFunction (sealer_function self)) (C.image (sealer_coefficient self)) (sealing self) call }
-        ensures coefficient { sealer_coefficient result.0 ≡ sealer_coefficient self }
-        ensures kept { Keeps K.KeyedFunction (sealer_function self) (sealer_function result.0) }
+        ensures made { Worked K.KeyedFunction C.Coefficient (sealer_engine self) (sealer_engine result.0) (λ f A. (sealing result.0, result.1) ≡ sealer_made f A (sealing self) call) }
         ensures fits { SealerCallFits call }
     {
         match (self, call) {
@@ -73,9 +71,7 @@ impl<K: KeyedFunction, C: Coefficient> Sealer<K, C> {
 impl<K: KeyedFunction, C: Coefficient> Receiver<K, C> {
     /// Makes a call.
     pub fn take(&mut self, call: ReceiverCall) -> ReceiverEntry
-        ensures value { K.sound self.old.function → (receiving self.new, result) ≡ receiver_made (function_of K.KeyedFunction self.old.function) (C.image self.old.coefficient) (receiving self.old) call }
-        ensures coefficient { self.new.coefficient ≡ self.old.coefficient }
-        ensures kept { Keeps K.KeyedFunction self.old.function self.new.function }
+        ensures made { Worked K.KeyedFunction C.Coefficient self.old.engine self.new.engine (λ f A. (receiving self.new, result) ≡ receiver_made f A (receiving self.old) call) }
         ensures fits { ReceiverCallFits call }
     {
         match call {

@@ -1,6 +1,6 @@
 //! Histories: a list of calls on two new ends, and the law of a loss, which holds of every one.
 ghost use Rattle.std.specs.Prelude.{◌<◌, ◌≤◌, IfOk, vec_len, vec_capacity, MatchResult, OnErr};
-ghost use Rattle.link.specs.Ends.{CallFits, sealer_coefficient, sealer_function};
+ghost use Rattle.link.specs.Ends.{CallFits, sealer_engine};
 ghost use Rattle.link.specs.Histories.{IsHistory, ObeysLaw, OneLonger, OneMore, SameMeaning};
 
 use crate::call::{Call, Entry};
@@ -28,7 +28,7 @@ where
     /// One call more. An `Err` comes only where the log is full and finds no more memory.
     fn take(self, call: Call) -> Result<Self, AllocError>
         ensures value { IfOk result (OneMore SK.KeyedFunction SC.Coefficient RK.KeyedFunction RC.Coefficient self call) }
-        ensures meaning { IfOk result (SameMeaning SK.KeyedFunction SC.Coefficient RK.KeyedFunction RC.Coefficient (sealer_function self.sealer) (sealer_coefficient self.sealer) self.receiver.function self.receiver.coefficient) }
+        ensures meaning { IfOk result (SameMeaning SK.KeyedFunction SC.Coefficient RK.KeyedFunction RC.Coefficient (sealer_engine self.sealer).function (sealer_engine self.sealer).coefficient self.receiver.engine.function self.receiver.engine.coefficient) }
         ensures fits { CallFits call }
         ensures room { MatchResult result (OneLonger self.log) (λ _. vec_capacity self.log ≤ vec_len self.log) }
     {

@@ -44,6 +44,7 @@ impl Issuer {
 
 impl Nonce {
     /// The six bytes of the nonce: the run number, then the message number, low bytes first.
+    #[tactic(auto, unfolding(crate::specs::Issuing::nonce_bytes))]
     pub fn bytes(&self) -> [u8; 6]
         ensures { result ≡ nonce_bytes self.now }
     {

@@ -3,6 +3,8 @@
 
 mod call;
 mod ends;
+mod engine;
+mod footing;
 mod history;
 mod issuer;
 mod receiver;

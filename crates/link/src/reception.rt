@@ -23,6 +23,7 @@ pub enum Event {
 }
 
 /// What becomes of a reading or a verdict.
+// As an `Option` of the row, `Some` would stand for what is kept back and `None` for what is handed out.
 #[derive(Clone, Copy)]
 pub enum Release {
     HandOut,
@@ -31,6 +32,7 @@ pub enum Release {
 }
 
 /// What a receiver answers to a word.
+// As a `Result`, a word that is withheld would be a failure that `?` carries out of the loop; it is none, and the loop goes on.
 #[derive(Clone, Copy, PartialEq, Eq, Debug)]
 pub enum Answer {
     /// The plaintext word.
@@ -52,6 +54,7 @@ pub enum Verdict {
 
 /// The receiver's state and the call together decide where it stands next and what it hands out. A lost receiver withholds every word,
 /// open ones too; only sealed words add to its row.
+#[tactic(auto, unfolding(crate::specs::Receiving::row_after, crate::specs::Receiving::with_row))]
 pub(crate) fn decide(reception: Reception, event: Event) -> (Reception, Release)
     requires { row_of reception ≤ 16 }
     ensures value { result ≡ decided reception event }

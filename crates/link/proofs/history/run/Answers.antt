@@ -1,12 +1,12 @@
-use Rattle.std.proofs.Common.{◌≡◌, ℕ, List, [], length, vec_items, vec_len, sym, refl, ap, ◌∙◌, subst, arith, rules}
+use Rattle.std.proofs.Common.{◌≡◌, List, [], length, vec_items, vec_len, sym, refl, ap, ◌∙◌, subst, arith, rules}
 use Rattle.std.specs.Vec.Iter.{into_iter_items}
 use Rattle.std.specs.List.{AllByRecursion as Every}
 use Rattle.sss.specs.Cipher.{keyed}
-use Rattle.sss.specs.Kept.{Kept}
-use Rattle.sss.proofs.Asked.{kept_twice}
+use Rattle.sss.specs.Asked.{Keeps}
+use Rattle.sss.specs.declared.keyed.KeyedFunction.{Ghosts as Keyed}
+use Rattle.sss.proofs.Asked.{keeps_on}
 use Rattle.sss.proofs.OneToOne.{keyed_one_to_one}
-use Rattle.sss.specs.Registers.{state}
-use Rattle.link.specs.Ends.{Ends, CallFits, history, new_ends, one_call, ready, receiving, sealer_function}
+use Rattle.link.specs.Ends.{Ends, CallFits, history, new_ends, one_call, ready, receiving, sealer_engine}
 use Rattle.link.specs.Histories.{after}
 use Rattle.link.specs.declared.call.Call.{Call}
 use Rattle.link.specs.declared.call.Entry.{Entry}
@@ -14,9 +14,8 @@ use Rattle.link.proofs.Progress.{ToCome, enough_more, refused_by, to_come_by, to
 use Rattle.link.proofs.history.run.Goals as goal
 
 -- A function that an end was made with.
-from_start : {K : Type 0} (table : K → List ℕ) (sound : K → Type 0) {k k' : K} (k'' : K) → k ≡ k' → Kept (table k) (sound k) (table k'') (sound k'') →
-    Kept (table k') (sound k') (table k'') (sound k'')
-from_start {K} table sound k'' e kept = subst (λ (x : K). Kept (table x) (sound x) (table k'') (sound k'')) e kept
+from_start : {K : Type 0} (F : Keyed K) {k k' : K} (k'' : K) → k ≡ k' → Keeps F k k'' → Keeps F k' k''
+from_start {K} F k'' e kept = subst (λ (x : K). Keeps F x k'') e kept
 
 pub loop-call-init : goal.loop-call-init
 loop-call-init g c = (λ s r. refl, λ h. h, record { meaning = refl; sound = λ s. s }, record { meaning = refl; sound = λ s. s }, refl, refl, λ h. h)
@@ -25,12 +24,12 @@ pub loop-call-preserved : goal.loop-call-preserved
 loop-call-preserved g c =
     let S = g.SK.KeyedFunction in
     let R = g.RK.KeyedFunction in
-    let s = c.new.result.function in
-    let r = c.new-2.result.function in
+    let s = c.new.result.engine.function in
+    let r = c.new-2.result.engine.function in
     let f = keyed (S.table s) in
     let f' = keyed (R.table r) in
-    let A = g.SC.Coefficient.image c.new.result.coefficient in
-    let A' = g.RC.Coefficient.image c.new-2.result.coefficient in
+    let A = g.SC.Coefficient.image c.new.result.engine.coefficient in
+    let A' = g.RC.Coefficient.image c.new-2.result.engine.coefficient in
     let inv = c.loop-call.invariant in
     let said = c.in_ok-history.ensures in
     let first = c.in-Some.ensures.steps.0 in
@@ -40,7 +39,7 @@ loop-call-preserved g c =
     let rest : List Call = into_iter_items c.next.new.self in
     let all : List Call = into_iter_items c.into_iter-call-iterator.result in
     let start : Ends × List Entry =
-    (record { sealer = ready (state c.new.result.registers); receiver = receiving c.new-2.result }, vec_items c.clear.new.self) in (
+    (record { sealer = ready (c.new.result.engine.registers); receiver = receiving c.new-2.result }, vec_items c.clear.new.self) in (
       λ t u.
           let step : after next ≡ one_call f A f' A' (after c.loop-call.history) x =
           let took = said.value (inv.2.sound t) (inv.3.sound u) in
@@ -51,8 +50,8 @@ loop-call-preserved g c =
           cc in
           to_come_more f A f' A' start (after c.loop-call.history) (after next) all left rest x (inv.0 t u) first step,
       λ h. inv.1 (fits_more left rest x first said.fits h),
-      kept_twice inv.2 said.meaning.sealer,
-      kept_twice inv.3 said.meaning.receiver,
+      keeps_on S inv.2 said.meaning.sealer,
+      keeps_on R inv.3 said.meaning.receiver,
       said.meaning.sealer_same ∙ inv.4,
       said.meaning.receiver_same ∙ inv.5,
       enough_more c.clear.new.self c.loop-call.history.log next.log all left rest x inv.6 first said.room.length said.room.room,
@@ -91,7 +90,7 @@ returns g c =
     let sealer = c.new.ensures in
     let receiver = c.new-2.ensures in
     let start : Ends × List Entry =
-    (record { sealer = ready (state c.new.result.registers); receiver = receiving c.new-2.result }, vec_items c.clear.new.self) in
+    (record { sealer = ready (c.new.result.engine.registers); receiver = receiving c.new-2.result }, vec_items c.clear.new.self) in
     let new : start ≡ (new_ends, []) =
     λ i. (
       record { sealer = ready (sealer.registers i); receiver = record { reception = receiver.reception i; registers = receiver.registers i } },
@@ -99,8 +98,8 @@ returns g c =
     ) in
     let value : S.sound c.args.sealer.0 → R.sound c.args.receiver.0 → after c.loop-call.history ≡ history f A f' A' calls = λ s r.
     let so : ToCome f A f' A' start all (after c.loop-call.history) rest =
-    to_come_by (keyed (S.table c.new.result.function)) (g.SC.Coefficient.image c.new.result.coefficient)
-    (keyed (R.table c.new-2.result.function)) (g.RC.Coefficient.image c.new-2.result.coefficient) f A f' A' start (after c.loop-call.history) all rest (ap (λ x. keyed (S.table x)) sealer.function)
+    to_come_by (keyed (S.table c.new.result.engine.function)) (g.SC.Coefficient.image c.new.result.engine.coefficient)
+    (keyed (R.table c.new-2.result.engine.function)) (g.RC.Coefficient.image c.new-2.result.engine.coefficient) f A f' A' start (after c.loop-call.history) all rest (ap (λ x. keyed (S.table x)) sealer.function)
     (ap g.SC.Coefficient.image sealer.coefficient) (ap (λ x. keyed (R.table x)) receiver.function)
     (ap g.RC.Coefficient.image receiver.coefficient)
     (inv.0 (subst S.sound (sym sealer.function) s) (subst R.sound (sym receiver.function) r)) in
@@ -114,9 +113,9 @@ returns g c =
           (after c.loop-call.history) (value s r);
       meaning =
           record {
-            sealer = from_start S.table S.sound (sealer_function c.loop-call.history.sealer) sealer.function inv.2;
+            sealer = from_start S (sealer_engine c.loop-call.history.sealer).function sealer.function inv.2;
             sealer_same = inv.4 ∙ sealer.coefficient;
-            receiver = from_start R.table R.sound c.loop-call.history.receiver.function receiver.function inv.3;
+            receiver = from_start R c.loop-call.history.receiver.engine.function receiver.function inv.3;
             receiver_same = inv.5 ∙ receiver.coefficient;
           };
       room = tt;
