@@ -1,26 +1,25 @@
 -- Nothing differs exactly where the message is as the published cipher has it.
-use Rattle.std.proofs.Common.{◌≡◌, ℕ, Bool, true, false, cond, List, [], ◌∷◌, ◌++◌, vec_items, sym, refl, ap, ◌∙◌, arith}
+use Rattle.std.proofs.Common.{◌≡◌, Bool, true, false, cond, List, [], ◌∷◌, ◌++◌, sym, refl, ap, ◌∙◌}
 use Rattle.std.proofs.lemmas.Bool.{cond-true}
-use Rattle.sss.specs.Cipher.{key_table}
 use Rattle.vectors.specs.declared.vector.Vector.{Vector}
 use Rattle.vectors.specs.declared.compare.Comparison.{Comparison}
 use Rattle.vectors.specs.declared.compare.Comparison.TheVariants.{Wire, SealedTag, Plaintext, OpenedTag}
 use Rattle.vectors.specs.declared.compare.Difference.{Difference}
 use Rattle.vectors.specs.declared.compare.Function.{Function}
 use Rattle.vectors.specs.declared.compare.Way.{Way}
-use Rattle.vectors.specs.Ways.{Published, NoneExactly, One, Keyed, Then, FromKeyWays, TableWays, AllWays, failed, held}
+use Rattle.vectors.specs.Ways.{Published, NoneExactly, One, Keyed, Then, FromKeyWays, TableWays, AllWays, failed, key_function}
 
 left_none : (p q : List Difference) → p ++ q ≡ [] → p ≡ []
 left_none [] q e = refl
-left_none (d ∷ p) q e = let z : ◌≡◌ {A = ℕ} 0 1 = cc in absurd (omega arith)
+left_none (d ∷ p) q e = cc
 
 right_none : (p q : List Difference) → p ++ q ≡ [] → q ≡ []
 right_none [] q e = e
-right_none (d ∷ p) q e = let z : ◌≡◌ {A = ℕ} 0 1 = cc in absurd (omega arith)
+right_none (d ∷ p) q e = cc
 
 none_held : (b : Bool) (d : Difference) → cond b [] (d ∷ []) ≡ [] → b ≡ true
 none_held true d e = refl
-none_held false d e = let z : ◌≡◌ {A = ℕ} 0 1 = cc in absurd (omega arith)
+none_held false d e = cc
 
 -- Where each part is empty exactly when P holds, so are both together.
 Exactly : Type 0 → (List Difference → Type 0) → Type 0
@@ -34,15 +33,15 @@ then_exactly P Q R first second part (p, q, hp, hq, e) = (
 )
 
 module _ (v : Vector) where
-  one_exactly : (w : Way) → Exactly (Published v) (One (key_table (vec_items v.key)) v w)
+  one_exactly : (w : Way) → Exactly (Published v) (One (key_function v) v w)
   unfolding Exactly
-  one_exactly w part (a, j, e) = (
+  one_exactly w part (held, j, e) = (
     λ none.
-        let f : (k : Comparison) → List Difference = failed a w in
+        let f : (k : Comparison) → List Difference = failed held w in
         let all = sym e ∙ none in
         let rest = right_none (f Wire) (f SealedTag ++ (f Plaintext ++ f OpenedTag)) all in
         let rest' = right_none (f SealedTag) (f Plaintext ++ f OpenedTag) rest in
-        let at : (k : Comparison) → f k ≡ [] → held a k ≡ true = λ k h. none_held (held a k) (record { way = w; comparison = k }) h in
+        let at : (k : Comparison) → f k ≡ [] → held k ≡ true = λ k h. none_held (held k) (record { way = w; comparison = k }) h in
         record {
           wire = j.wire.0 (at Wire (left_none (f Wire) (f SealedTag ++ (f Plaintext ++ f OpenedTag)) all));
           sealed_tag = j.sealed_tag.0 (at SealedTag (left_none (f SealedTag) (f Plaintext ++ f OpenedTag) rest));
@@ -50,7 +49,7 @@ module _ (v : Vector) where
           opened_tag = j.opened_tag.0 (at OpenedTag (right_none (f Plaintext) (f OpenedTag) rest'));
         },
     λ p.
-        let at : (k : Comparison) → held a k ≡ true → failed a w k ≡ [] = λ k h. cond-true (held a k) [] (record { way = w; comparison = k } ∷ []) h in
+        let at : (k : Comparison) → held k ≡ true → failed held w k ≡ [] = λ k h. cond-true (held k) [] (record { way = w; comparison = k } ∷ []) h in
         let one = at Wire (j.wire.1 p.wire) in
         let two = at SealedTag (j.sealed_tag.1 p.sealed_tag) in
         let three = at Plaintext (j.plaintext.1 p.plaintext) in

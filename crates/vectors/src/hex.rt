@@ -6,6 +6,7 @@ use crate::flaw::Flaw;
 use std::alloc::Global;
 
 /// The value of a lower-case hex digit.
+// The library's hex takes upper case too, which is no message here.
 pub(crate) fn digit(character: u8) -> Option<u8>
     ensures value { result ≡ digit_of character }
 {
@@ -23,33 +24,31 @@ fn byte(high: u8, low: u8) -> Option<u8>
     Some(digit(high)? * 16 + digit(low)?)
 }
 
+// Each of the two names its own flaw, and only the first can fail at a pair: one function with both closures is no plainer.
+
 /// The bytes that hex digits spell, two digits to a byte.
 pub(crate) fn bytes(heap: Global, digits: &[u8]) -> Result<Vec<u8>, Flaw>
     ensures value { MatchResult result (λ v. Spells digits.now v.items) (NotSpelled digits.now) }
 {
-    if digits.len() % 2 != 0 {
+    let (pairs, []) = digits.as_chunks::<2>() else {
         return Err(Flaw::OddDigits);
-    }
-    let mut spelled = Vec::new(heap);
-    for i in 0..digits.len() / 2 {
-        let Some(b) = byte(digits[2 * i], digits[2 * i + 1]) else {
-            return Err(Flaw::NotADigit);
-        };
-        spelled.push(b)?;
-    }
-    Ok(spelled)
+    };
+    pairs
+        .iter()
+        .map(|[high, low]| byte(*high, *low).ok_or(Flaw::NotADigit))
+        .try_collect(heap)
 }
 
 /// The words that bytes make, two bytes to a word, the low one first.
 pub(crate) fn words(heap: Global, bytes: &[u8]) -> Result<Vec<u16>, Flaw>
     ensures value { MatchResult result (λ v. Pairs bytes.now v.items) (NotPaired bytes.now) }
 {
-    if bytes.len() % 2 != 0 {
+    let (pairs, []) = bytes.as_chunks::<2>() else {
         return Err(Flaw::OddBytes);
-    }
-    let mut paired = Vec::new(heap);
-    for i in 0..bytes.len() / 2 {
-        paired.push(u16::from_le_bytes([bytes[2 * i], bytes[2 * i + 1]]))?;
-    }
-    Ok(paired)
+    };
+    let words = pairs
+        .iter()
+        .map(|pair| u16::from_le_bytes(*pair))
+        .collect(heap)?;
+    Ok(words)
 }

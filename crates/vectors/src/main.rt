@@ -20,6 +20,7 @@ use vector::{Malformed, Vector};
 /// How many messages are printed in full.
 const SHOWN: usize = 5;
 
+// The runtime, a line's number and the tally are passed one by one: a struct of two references and a number would be no plainer for three short functions.
 /// Reports a line that is not a message.
 fn malformed(rt: &HostRuntime, number: usize, why: Malformed, tally: &mut Tally) -> io::Result<()>
     ensures after { tally.new ≡ after_malformed tally.old }
@@ -34,10 +35,13 @@ fn compared(rt: &HostRuntime, number: usize, vector: &Vector, tally: &mut Tally)
 {
     let words = vector.wire.len();
     let shown = tally.messages < SHOWN;
-    match compare::judged(rt.alloc(), vector) {
-        Ok(finding) => {
-            tally.compared(words, finding.agrees);
-            report::message(rt, number, vector, &finding, shown)
+    match compare::differences(rt.alloc(), vector) {
+        Ok(found) => {
+            tally.compared(words, found.is_empty());
+            if shown {
+                report::heading(rt, number, vector, &found)?;
+            }
+            report::differences(rt, number, &found)
         }
         Err(why) => {
             tally.refused(words);
@@ -59,6 +63,7 @@ fn take(rt: &HostRuntime, number: usize, line: &[u8], tally: &mut Tally) -> io::
 fn main(rt: HostRuntime) -> io::Result<()> {
     report::figures(&rt, functions::self_test())?;
     let mut tally = Tally::new();
+    // Counted here and not by `enumerate`: nothing bounds how many lines come, and the number stays at the largest one.
     let mut number = 0usize;
     // The number of an empty line after which no line has come: it is no message where the input ends there.
     let mut held = None;

@@ -31,12 +31,6 @@ impl MaskKind {
     pub(crate) fn count(self, words: &[MaskedWord]) -> usize
         ensures value { result ≡ count_by (mask_is self) words.now }
     {
-        let mut count = 0;
-        for word in words {
-            if self.fits(word.mask) {
-                count += 1;
-            }
-        }
-        count
+        words.iter().filter(|word| self.fits(word.mask)).count()
     }
 }

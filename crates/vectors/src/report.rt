@@ -2,13 +2,13 @@
 ghost use Rattle.std.specs.Prelude.{◌≡◌};
 ghost use Rattle.vectors.specs.Tallies.{fresh, after_malformed, after_refused, after_compared};
 
-use crate::compare::{Finding, Function, Multiplier};
+use crate::compare::{Difference, Function, Multiplier};
 use crate::mask::MaskKind;
 use crate::vector::Vector;
 use std::{fmt, io};
 
 /// How many messages were seen, and what came of them.
-#[derive(Clone, Copy)]
+#[derive(Clone, Copy, Default)]
 pub struct Tally {
     /// The lines that should be messages, those that could not be read too.
     pub messages: usize,
@@ -27,13 +27,7 @@ impl Tally {
     pub(crate) fn new() -> Tally
         ensures value { result ≡ fresh }
     {
-        Tally {
-            messages: 0,
-            words: 0,
-            differ: 0,
-            compared: 0,
-            worked: 0,
-        }
+        Tally::default()
     }
 
     /// Counts a line that could not be read.
@@ -67,6 +61,7 @@ impl Tally {
 }
 
 /// Bytes to print in hex, `-` for none.
+// The other program prints hex too, and never none: a crate between the two for these lines is no plainer.
 #[derive(Clone, Copy)]
 struct Hex<'a>(&'a [u8]);
 
@@ -82,56 +77,35 @@ impl fmt::Display for Hex<'_> {
     }
 }
 
-/// Words to print in hex, each with its low byte first.
-#[derive(Clone, Copy)]
-struct HexWords<'a>(&'a [u16]);
-
-impl fmt::Display for HexWords<'_> {
-    fn fmt<W: fmt::Write>(&self, f: &mut fmt::Formatter<W>) -> fmt::Result {
-        for word in self.0 {
-            let [low, high] = word.to_le_bytes();
-            write!(f, "{low:02x}{high:02x}")?;
-        }
-        Ok(())
-    }
-}
-
 /// Prints whether the library works out the known figures.
 pub(crate) fn figures(rt: &HostRuntime, hold: bool) -> io::Result<()> {
-    if hold {
-        println!(rt; "known figures of the cipher: all as published")
-    } else {
-        println!(rt; "known figures of the cipher: NOT as published")
-    }
+    let extent = if hold { "all" } else { "NOT" };
+    println!(rt; "known figures of the cipher: {extent} as published")
 }
 
-/// Prints what a message is made of and whether it agrees, where that is to be shown, and what differs.
-pub(crate) fn message(
-    rt: &HostRuntime,
-    number: usize,
-    vector: &Vector,
-    finding: &Finding,
-    shown: bool,
-) -> io::Result<()> {
-    if shown {
-        heading(rt, number, vector, finding.agrees)?;
-    }
-    for difference in finding.differences.as_slice() {
+/// Prints what differs from a message.
+pub(crate) fn differences(rt: &HostRuntime, number: usize, found: &[Difference]) -> io::Result<()> {
+    for difference in found {
         println!(rt; "line {number}: {difference}")?;
     }
     Ok(())
 }
 
 /// Prints what a message is made of, and whether it agrees.
-fn heading(rt: &HostRuntime, number: usize, vector: &Vector, agrees: bool) -> io::Result<()> {
-    let words = vector.plaintext.as_slice();
+pub(crate) fn heading(
+    rt: &HostRuntime,
+    number: usize,
+    vector: &Vector,
+    found: &[Difference],
+) -> io::Result<()> {
     let length = vector.key.len();
-    let nonce = Hex(vector.nonce.as_slice());
-    let sealed = MaskKind::Sealed.count(words);
-    let unsealed = MaskKind::Open.count(words);
-    let part = MaskKind::Part.count(words);
-    let tag = HexWords(&vector.tag);
-    let verdict = if agrees {
+    let nonce = Hex(&vector.nonce);
+    let sealed = MaskKind::Sealed.count(&vector.plaintext);
+    let unsealed = MaskKind::Open.count(&vector.plaintext);
+    let part = MaskKind::Part.count(&vector.plaintext);
+    let tag = vector.tag.map(|word| word.to_le_bytes());
+    let tag = Hex(tag.as_flattened());
+    let verdict = if found.is_empty() {
         "agree in all 10 ways"
     } else {
         "do not agree in all 10 ways"
@@ -143,11 +117,13 @@ fn heading(rt: &HostRuntime, number: usize, vector: &Vector, agrees: bool) -> io
 
 /// Prints the end of the report.
 pub(crate) fn summary(rt: &HostRuntime, tally: Tally) -> io::Result<()> {
-    let compared = tally.compared;
-    let worked = tally.worked;
-    let messages = tally.messages;
-    let words = tally.words;
-    let differ = tally.differ;
+    let Tally {
+        messages,
+        words,
+        differ,
+        compared,
+        worked,
+    } = tally;
     println!(rt; "{compared} messages with {worked} words sealed and opened in each of 10 ways")?;
     println!(rt;
         "keyed functions: {}, {}, {}, {}, {}",

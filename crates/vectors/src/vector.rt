@@ -10,9 +10,10 @@ use crate::hex;
 use sss::MaskedWord;
 use std::alloc::{AllocError, Global};
 use std::fmt;
+use thiserror::Error;
 
 /// A field of a line.
-#[derive(Clone, Copy)]
+#[derive(Clone, Copy, Debug)]
 pub enum Field {
     Key,
     Nonce,
@@ -36,35 +37,26 @@ impl fmt::Display for Field {
 }
 
 /// Why a line is not a message.
-#[derive(Clone, Copy)]
+#[derive(Clone, Copy, Debug, Error)]
 pub enum Malformed {
     /// The line is not UTF-8.
+    #[error("not text")]
     NotText,
     /// The line has this many fields, which is not six.
+    #[error("6 fields are wanted, and it has {0}")]
     Fields(usize),
     /// One field is at fault.
+    #[error("field {0}: {1}")]
     InField(Field, Flaw),
     /// Masks, plaintext and wire have not the same number of words.
+    #[error("fields masks, plaintext and wire are of different lengths")]
     Lengths,
     /// There was no memory to hold the line.
+    #[error("no memory to read it")]
     NoMemory,
 }
 
-impl fmt::Display for Malformed {
-    fn fmt<W: fmt::Write>(&self, f: &mut fmt::Formatter<W>) -> fmt::Result {
-        match self {
-            Malformed::NotText => write!(f, "not text"),
-            Malformed::Fields(count) => write!(f, "6 fields are wanted, and it has {count}"),
-            Malformed::InField(field, flaw) => write!(f, "field {field}: {flaw}"),
-            Malformed::Lengths => write!(
-                f,
-                "fields masks, plaintext and wire are of different lengths"
-            ),
-            Malformed::NoMemory => write!(f, "no memory to read it"),
-        }
-    }
-}
-
+// The contracts name the error that `?` makes, and are not proved without `from_gives`, which no derive writes.
 impl From<AllocError> for Malformed {
     ghost from_gives = { λ _ r. r ≡ NoMemory };
 
@@ -73,6 +65,7 @@ impl From<AllocError> for Malformed {
     }
 }
 
+// A struct and no array of texts: nothing walks the fields, and each keeps its name.
 /// The texts of a line's six fields.
 #[derive(Clone, Copy)]
 pub struct Fields<'a> {
@@ -83,6 +76,8 @@ pub struct Fields<'a> {
     pub wire: &'a str,
     pub tag: &'a str,
 }
+
+// The allocator comes to each function that makes a list, as the library's own calls take it: a struct of it and the text would be made for each field.
 
 /// The pieces of a line between its blanks.
 fn pieces<'a>(heap: Global, line: &'a str) -> Result<Vec<&'a str>, AllocError>
@@ -98,16 +93,16 @@ impl<'a> Fields<'a> {
         ensures value { MatchResult result (λ f. Cut line.now (texts_of f)) (NotCut line.now) }
     {
         let texts = pieces(heap, line)?;
-        if texts.len() != 6 {
+        let [key, nonce, masks, plaintext, wire, tag] = *texts.as_slice() else {
             return Err(Malformed::Fields(texts.len()));
-        }
+        };
         Ok(Fields {
-            key: texts[0],
-            nonce: texts[1],
-            masks: texts[2],
-            plaintext: texts[3],
-            wire: texts[4],
-            tag: texts[5],
+            key,
+            nonce,
+            masks,
+            plaintext,
+            wire,
+            tag,
         })
     }
 }
@@ -116,14 +111,11 @@ impl<'a> Fields<'a> {
 fn field_bytes(heap: Global, text: &str) -> Result<Vec<u8>, Flaw>
     ensures value { MatchResult result (λ v. FieldBytes text.now v.items) (NoBytes text.now) }
 {
-    let digits = text.as_bytes();
-    if digits.is_empty() {
-        return Err(Flaw::NoDigits);
+    match text.as_bytes() {
+        [] => Err(Flaw::NoDigits),
+        [b'-'] => Ok(Vec::new(heap)),
+        digits => hex::bytes(heap, digits),
     }
-    if digits.len() == 1 && digits[0] == b'-' {
-        return Ok(Vec::new(heap));
-    }
-    hex::bytes(heap, digits)
 }
 
 /// The words of a field, where `-` is none.
@@ -131,7 +123,7 @@ fn field_words(heap: Global, text: &str) -> Result<Vec<u16>, Flaw>
     ensures value { MatchResult result (λ v. FieldWords text.now v.items) (NoWords text.now) }
 {
     let bytes = field_bytes(heap, text)?;
-    hex::words(heap, bytes.as_slice())
+    hex::words(heap, &bytes)
 }
 
 /// The eight words of a tag's field.
@@ -142,10 +134,8 @@ fn field_tag(heap: Global, text: &str) -> Result<[u16; 8], Flaw>
     if bytes.len() != 16 {
         return Err(Flaw::NotATag(bytes.len()));
     }
-    let words = hex::words(heap, bytes.as_slice())?;
-    let mut tag = [0; 8];
-    tag.copy_from_slice(words.as_slice());
-    Ok(tag)
+    let words = hex::words(heap, &bytes)?;
+    Ok(<[u16; 8]>::try_from(words.as_slice()).unwrap())
 }
 
 /// Each mask with its text.
@@ -154,27 +144,25 @@ fn masked(heap: Global, masks: &[u16], texts: &[u16]) -> Result<Vec<MaskedWord>,
     ensures masks { IfOk result (λ v. map mask_of v.items ≡ masks.now) }
     ensures texts { IfOk result (λ v. map text_of v.items ≡ texts.now) }
 {
-    let mut words = Vec::new(heap);
-    for (i, mask) in masks.iter().enumerate() {
-        words.push(MaskedWord {
+    masks
+        .iter()
+        .zip(texts)
+        .map(|(mask, text)| MaskedWord {
             mask: *mask,
-            text: texts[i],
-        })?;
-    }
-    Ok(words)
+            text: *text,
+        })
+        .collect(heap)
 }
 
 /// A field's fault as the line's.
 fn in_field<T>(field: Field, read: Result<T, Flaw>) -> Result<T, Malformed>
     ensures value { result ≡ placed field read }
 {
-    match read {
-        Ok(x) => Ok(x),
-        Err(flaw) => Err(Malformed::InField(field, flaw)),
-    }
+    read.map_err(|flaw| Malformed::InField(field, flaw))
 }
 
 /// A message as another program sealed it.
+// Two lists with one set of masks: sealing and opening each take a slice of masked words, and one list would be split at every call.
 #[derive(Drop)]
 pub struct Vector {
     pub key: Vec<u8>,
@@ -200,8 +188,8 @@ impl Vector {
         if masks.len() != plaintext.len() || masks.len() != wire.len() {
             return Err(Malformed::Lengths);
         }
-        let plaintext = masked(heap, masks.as_slice(), plaintext.as_slice())?;
-        let wire = masked(heap, masks.as_slice(), wire.as_slice())?;
+        let plaintext = masked(heap, &masks, &plaintext)?;
+        let wire = masked(heap, &masks, &wire)?;
         Ok(Vector {
             key,
             nonce,

@@ -1,29 +1,22 @@
-use Rattle.std.proofs.Common.{◌≡◌, ℕ, ◌+◌, ◌<◌, List, [], ◌∷◌, ◌++◌, map, length, get_or, take, refl, ap, ◌∙◌, arith}
-use Rattle.std.proofs.lemmas.List.{map_push, take_more, take_all}
+use Rattle.std.proofs.Common.{rules, ◌≡◌, ℕ, map, vec_items, sym, ap, ◌∙◌}
+use Rattle.std.specs.List.{zip}
+use Rattle.std.proofs.lemmas.Iterator.{YieldsList-from_slice, YieldsList-from_zip, YieldsList-from_map, items_from_collect}
+use Rattle.std.proofs.lemmas.Result.{IfOk-weaker}
+use Rattle.std.proofs.lemmas.Simd.{map-map}
+use Rattle.std.proofs.lemmas.Slice.Zip.{firsts-zip, seconds-zip}
 use Rattle.sss.specs.declared.MaskedWord.{MaskedWord}
 use Rattle.vectors.specs.Fields.{mask_of, text_of}
 use Rattle.vectors.proofs.vector.masked.Goals as goal
 
--- One more word has one more mask, and one more text.
-one_more : (f : MaskedWord → ℕ) (more words : List MaskedWord) (w : MaskedWord) (xs : List ℕ) (i : ℕ)
-    → more ≡ words ++ w ∷ [] → map f words ≡ take i xs → f w ≡ get_or xs i 0 → i < length xs
-    → map f more ≡ take (i + 1) xs
-one_more f more words w xs i pushed so_far here h =
-    let p = map_push f words w in
-    let t = take_more xs i 0 h in
-    ap (map f) pushed ∙ cc
-
-pub loop-i-preserved : goal.loop-i-preserved
-loop-i-preserved c =
-    let pushed = c.in_ok-push.ensures.items in
-    let i = c.loop-i.i in (
-      one_more mask_of _ _ _ c.args.masks.now i pushed c.loop-i.invariant.0 refl (omega arith),
-      one_more text_of _ _ _ c.args.texts.now i pushed c.loop-i.invariant.1 refl (omega arith),
-    )
+abbrev word : ℕ × ℕ → MaskedWord
+word p = record { mask = p.0; text = p.1 }
 
 pub returns : goal.returns
 returns c =
+    let masks = c.args.masks.now in
+    let texts = c.args.texts.now in
+    let made = items_from_collect c.collect.result c.collect.ensures.ran (YieldsList-from_map _ word (YieldsList-from_zip (YieldsList-from_slice masks cc) (YieldsList-from_slice texts cc)) c.map.ensures.closure (λ x r q k. search rules)) in
     record {
-      masks = c.loop-i.invariant.0 ∙ take_all c.loop-i.i c.args.masks.now (omega arith);
-      texts = c.loop-i.invariant.1 ∙ take_all c.loop-i.i c.args.texts.now (omega arith);
+      masks = IfOk-weaker c.collect.result (λ v. vec_items v ≡ map word (zip masks texts)) (λ v. map mask_of (vec_items v) ≡ masks) (λ v all. ap (map mask_of) all ∙ map-map mask_of word (zip masks texts) ∙ firsts-zip masks texts (sym c.requires)) made;
+      texts = IfOk-weaker c.collect.result (λ v. vec_items v ≡ map word (zip masks texts)) (λ v. map text_of (vec_items v) ≡ texts) (λ v all. ap (map text_of) all ∙ map-map text_of word (zip masks texts) ∙ seconds-zip masks texts (sym c.requires)) made;
     }

@@ -4,9 +4,9 @@ use Rattle.vectors.specs.declared.vector.Field.TheVariants.{Key, Nonce, Masks, P
 use Rattle.vectors.specs.declared.vector.Malformed.TheVariants.{InField}
 use Rattle.vectors.specs.declared.vector.Vector.{Vector}
 use Rattle.vectors.specs.declared.vector.Malformed.{Malformed}
-use Rattle.vectors.specs.Fields.{FieldBytes, NoBytes, FieldWords, NoWords, NoTag, texts_of}
+use Rattle.vectors.specs.Fields.{FieldWords, NoWords, NoTag, texts_of}
 use Rattle.vectors.specs.Lines.{Reads, NotRead}
-use Rattle.vectors.proofs.Placed.{ok_of, err_of}
+use Rattle.vectors.proofs.Placed.{ok_of, err_of, bytes_of, words_of}
 use Rattle.vectors.proofs.vector.Vector.read.Goals as goal
 use Rattle.vectors.proofs.vector.Vector.read.Goals.{then-len-via-then-len, then-len-via-else-len+then-len-2}
 
@@ -30,9 +30,9 @@ returns-then-len c =
         vec_items masks,
         vec_items plaintext,
         vec_items wire,
-        ok_of Masks c.field_words.result (λ v. FieldWords f.masks.now (vec_items v)) (NoWords f.masks.now) _ c.in_ok-masks.ensures.value c.field_words.ensures.value,
-        ok_of Plaintext c.field_words-2.result (λ v. FieldWords f.plaintext.now (vec_items v)) (NoWords f.plaintext.now) _ c.in_ok-plaintext.ensures.value c.field_words-2.ensures.value,
-        ok_of Wire c.field_words-3.result (λ v. FieldWords f.wire.now (vec_items v)) (NoWords f.wire.now) _ c.in_ok-wire.ensures.value c.field_words-3.ensures.value,
+        words_of Masks f.masks.now c.field_words.result masks c.in_ok-masks.ensures.value c.field_words.ensures.value,
+        words_of Plaintext f.plaintext.now c.field_words-2.result plaintext c.in_ok-plaintext.ensures.value c.field_words-2.ensures.value,
+        words_of Wire f.wire.now c.field_words-3.result wire c.in_ok-wire.ensures.value c.field_words-3.ensures.value,
         λ a b. elim c.then-len.branch [ then-len-via-then-len w ↦ omega (arith, w.if-len.true, c.len.ensures, c.len-2.ensures, masks.ok.0, plaintext.ok.0) | then-len-via-else-len+then-len-2 w ↦ omega (arith, w.if-len-2.true, w.len-else-len.ensures, w.len-else-len-2.ensures, masks.ok.0, wire.ok.0) ],
       );
     }
@@ -40,17 +40,15 @@ returns-then-len c =
 pub returns : goal.returns
 returns c =
     let f = c.args.fields in
-    let masks = ok_of Masks c.field_words.result (λ v. FieldWords f.masks.now (vec_items v)) (NoWords f.masks.now) _ c.in_ok-masks.ensures.value c.field_words.ensures.value in
-    let plaintext = ok_of Plaintext c.field_words-2.result (λ v. FieldWords f.plaintext.now (vec_items v)) (NoWords f.plaintext.now) _ c.in_ok-plaintext.ensures.value c.field_words-2.ensures.value in
-    let wire = ok_of Wire c.field_words-3.result (λ v. FieldWords f.wire.now (vec_items v)) (NoWords f.wire.now) _ c.in_ok-wire.ensures.value c.field_words-3.ensures.value in
+    let masks = words_of Masks f.masks.now c.field_words.result _ c.in_ok-masks.ensures.value c.field_words.ensures.value in
     record {
       value = (
-        ok_of Key c.field_bytes.result (λ v. FieldBytes f.key.now (vec_items v)) (NoBytes f.key.now) _ c.in_ok-key.ensures.value c.field_bytes.ensures.value,
-        ok_of Nonce c.field_bytes-2.result (λ v. FieldBytes f.nonce.now (vec_items v)) (NoBytes f.nonce.now) _ c.in_ok-nonce.ensures.value c.field_bytes-2.ensures.value,
-        subst (FieldWords f.masks.now) (sym (c.in_ok-plaintext-2.ensures.masks ∙ c.as_slice.ensures.value)) masks,
-        subst (FieldWords f.masks.now) (sym (c.in_ok-wire-2.ensures.masks ∙ c.as_slice-3.ensures.value)) masks,
-        subst (FieldWords f.plaintext.now) (sym (c.in_ok-plaintext-2.ensures.texts ∙ c.as_slice-2.ensures.value)) plaintext,
-        subst (FieldWords f.wire.now) (sym (c.in_ok-wire-2.ensures.texts ∙ c.as_slice-4.ensures.value)) wire,
+        bytes_of Key f.key.now c.field_bytes.result _ c.in_ok-key.ensures.value c.field_bytes.ensures.value,
+        bytes_of Nonce f.nonce.now c.field_bytes-2.result _ c.in_ok-nonce.ensures.value c.field_bytes-2.ensures.value,
+        subst (FieldWords f.masks.now) (sym (c.in_ok-plaintext-2.ensures.masks ∙ c.deref.ensures.value)) masks,
+        subst (FieldWords f.masks.now) (sym (c.in_ok-wire-2.ensures.masks ∙ c.deref-3.ensures.value)) masks,
+        subst (FieldWords f.plaintext.now) (sym (c.in_ok-plaintext-2.ensures.texts ∙ c.deref-2.ensures.value)) (words_of Plaintext f.plaintext.now c.field_words-2.result _ c.in_ok-plaintext.ensures.value c.field_words-2.ensures.value),
+        subst (FieldWords f.wire.now) (sym (c.in_ok-wire-2.ensures.texts ∙ c.deref-4.ensures.value)) (words_of Wire f.wire.now c.field_words-3.result _ c.in_ok-wire.ensures.value c.field_words-3.ensures.value),
         ok_of Tag c.field_tag.result (FieldWords f.tag.now) (NoTag f.tag.now) _ c.in_ok-tag.ensures.value c.field_tag.ensures.value,
       );
     }
