@@ -1,5 +1,5 @@
 -- A log read as what is seen at the joint: which received word is which word of which message.
-use Rattle.std.specs.Prelude.{ℕ, ◌+◌, ◌-◌, ◌^◌, min, cond, List, [], ◌∷◌, ◌++◌, Some, None, vec_items, fold, Option, ◌==◌}
+use Rattle.std.specs.Prelude.{ℕ, ◌+◌, ◌-◌, ◌^◌, min, cond, List, [], ◌∷◌, ◌++◌, Some, None, fold, Option, ◌==◌}
 use Rattle.link.specs.declared.reception.Answer.{Answer}
 use Rattle.link.specs.declared.call.Entry.{Entry}
 use Rattle.link.specs.declared.call.Entry.TheVariants.{OfSealer, OfReceiver}
@@ -9,21 +9,15 @@ use Rattle.link.specs.declared.call.ReceiverEntry.{ReceiverEntry}
 use Rattle.link.specs.declared.call.ReceiverEntry.TheVariants as receiver
 use Rattle.weld.specs.declared.passage.Event.{Event}
 use Rattle.weld.specs.declared.passage.Event.TheVariants.{Begun, Word, Altered, Break, Ended, Abandoned}
-use Rattle.weld.specs.declared.passage.Passage.TheVariants.{Lost, Received}
-use Rattle.weld.specs.declared.passage.Reader.{Reader}
 use Rattle.weld.specs.declared.passage.Sent.{Sent}
 
--- A log read so far: how many messages were begun, the place of the next word, the latest word sent as long as nothing came after it, and what
--- was seen.
+-- A log read so far, which is what a reader of the code stands for: how many messages were begun, the place of the next word, the latest word
+-- sent as long as nothing came after it, and what was seen.
 pub record Reading : Type 0 where
   pub begun : ℕ
   pub place : ℕ
   pub pending : Option Sent
   pub seen : List Event
-
--- A reader of the code by these.
-abbrev pub reading : Reader → Reading
-reading r = record { begun = r.begun; place = r.place; pending = r.pending; seen = vec_items r.seen }
 
 -- Nothing is read yet.
 abbrev pub unread : Reading
@@ -40,7 +34,7 @@ none_pending s = record { begun = s.begun; place = s.place; pending = None; seen
 -- Something else happens than that the word sent is received: the word is lost.
 abbrev pub settled_by : Option Sent → Reading → Reading
 settled_by None s = none_pending s
-settled_by (Some w) s = seeing (Word w Lost) (none_pending s)
+settled_by (Some w) s = seeing (Word w None) (none_pending s)
 
 -- The same of the word that is under way, if there is one.
 abbrev pub settled : Reading → Reading
@@ -62,7 +56,7 @@ word_sent mask plain wire s =
 abbrev pub received_by : Option Sent → ℕ → Answer → Reading → Reading
 received_by None wire answer s = s
 received_by (Some w) wire answer s =
-    seeing (Word w (Received answer)) (cond (wire == w.wire) (none_pending s) (seeing (Altered w wire) (none_pending s)))
+    seeing (Word w (Some answer)) (cond (wire == w.wire) (none_pending s) (seeing (Altered w wire) (none_pending s)))
 
 -- The same of the word that is under way.
 abbrev pub word_received : ℕ → Answer → Reading → Reading

@@ -1,11 +1,9 @@
 -- What the program counts, and how each thing that is seen changes it.
-use Rattle.std.specs.Prelude.{ℕ, ◌+◌, ◌-◌, ◌^◌, min, cond, List, fold, ◌==◌}
+use Rattle.std.specs.Prelude.{ℕ, ◌+◌, ◌-◌, ◌^◌, min, cond, List, fold, Option, Some, None, ◌==◌}
 use Rattle.link.specs.declared.reception.Answer.{Answer}
 use Rattle.link.specs.declared.reception.Answer.TheVariants.{Reading, Withheld}
 use Rattle.weld.specs.declared.passage.Event.{Event}
 use Rattle.weld.specs.declared.passage.Event.TheVariants.{Begun, Word, Altered, Break, Ended, Abandoned}
-use Rattle.weld.specs.declared.passage.Passage.{Passage}
-use Rattle.weld.specs.declared.passage.Passage.TheVariants.{Lost, Received}
 use Rattle.weld.specs.declared.tally.Tally.{Tally}
 
 -- A count with n more, which stays at the largest number that 64 bits hold.
@@ -26,14 +24,14 @@ after_answer plain (Reading q) t = record { sealed = t.sealed; received = raised
 after_answer plain (Withheld row) t = record { sealed = t.sealed; received = raised t.received 1; handed = t.handed; withheld = raised t.withheld 1; wrong = t.wrong }
 
 -- A word that was sent counts as sent, and where it was received its answer counts; nothing else counts.
-abbrev pub after_passage : Tally → ℕ → Passage → Tally
-after_passage t plain Lost = after_sent t
-after_passage t plain (Received answer) = after_answer plain answer (after_sent t)
+abbrev pub after_word : Tally → ℕ → Option Answer → Tally
+after_word t plain None = after_sent t
+after_word t plain (Some answer) = after_answer plain answer (after_sent t)
 
 -- What one thing that is seen adds.
 abbrev pub after_event : Tally → Event → Tally
 after_event t (Begun message nonce) = t
-after_event t (Word sent passage) = after_passage t sent.plain passage
+after_event t (Word sent answer) = after_word t sent.plain answer
 after_event t (Altered sent came) = t
 after_event t Break = t
 after_event t (Ended tag verdict) = t

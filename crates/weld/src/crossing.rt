@@ -13,20 +13,15 @@ use std::alloc::Global;
 pub type Link = History<FilledTable, PrintedTable, FromKey, FieldRule>;
 
 /// Makes the calls of a list on a new sealer and a new receiver of one key. The law of a loss holds of what comes of it.
-pub(crate) fn run(heap: Global, key: &[u8], calls: Vec<Call>) -> Result<Link, Failure>
+pub(crate) fn run(key: &[u8], calls: Vec<Call>) -> Result<Link, Failure>
     ensures law { IfOk result (KeepsLaw key.now) }
 {
     let mut filled = FilledTable::new();
     filled.load(key)?;
     let mut worked_out = FromKey::new();
     worked_out.load(key)?;
-    let link = link::run(
-        (filled, PrintedTable),
-        (worked_out, FieldRule),
-        calls,
-        Vec::new(heap),
-    )?;
-    Ok(link)
+    let log = Vec::new(*calls.allocator());
+    Ok(link::run((filled, PrintedTable), (worked_out, FieldRule), calls, log)?)
 }
 
 /// The run of the whole link. A first run with the sealer alone tells the wire words and tags that the joint then
@@ -35,8 +30,7 @@ pub(crate) fn whole_run(heap: Global, issuer: &mut Issuer) -> Result<Link, Failu
     ensures law { IfOk result (KeepsLaw the_key) }
 {
     let mut rehearsal = Issuer::new(RUN);
-    let sealed = run(heap, &KEY, sending::calls(heap, &mut rehearsal)?)?;
-    let sealing = sending::calls(heap, issuer)?;
-    let calls = joint::calls(heap, sealing, sealed.log.as_slice())?;
-    run(heap, &KEY, calls)
+    let sealed = run(&KEY, sending::calls(heap, &mut rehearsal)?)?;
+    let calls = joint::calls(sending::calls(heap, issuer)?, &sealed.log)?;
+    run(&KEY, calls)
 }

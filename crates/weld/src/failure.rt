@@ -1,49 +1,21 @@
 //! What can keep the program from its report.
 use sss::Fault;
-use std::alloc::{AllocError, AllocFailed};
-use std::error::Error;
-use std::fmt;
+use std::alloc::AllocError;
+use thiserror::Error;
 
 /// Why there is no report.
-#[derive(Clone, Copy, Debug)]
+#[derive(Clone, Copy, Debug, Error)]
 pub enum Failure {
     /// There was no memory.
-    NoMemory,
+    #[error("no memory")]
+    NoMemory(#[from(alloc)] AllocError),
     /// A key, a nonce or a word was refused.
-    Refused(Fault),
+    #[error("refused with number {number}", number = .0.number())]
+    Refused(#[from] Fault),
     /// A call of the scenario was not made as it stands there.
+    #[error("a call of the scenario was not made as it stands there")]
     NotMade,
     /// A word was received that is no word of the sealer's.
+    #[error("a word was received that was not sent")]
     NotSent,
-}
-
-impl fmt::Display for Failure {
-    fn fmt<W: fmt::Write>(&self, f: &mut fmt::Formatter<W>) -> fmt::Result {
-        match self {
-            Failure::NoMemory => write!(f, "no memory"),
-            Failure::Refused(fault) => write!(f, "refused with number {}", fault.number()),
-            Failure::NotMade => write!(f, "a call of the scenario was not made as it stands there"),
-            Failure::NotSent => write!(f, "a word was received that was not sent"),
-        }
-    }
-}
-
-impl Error for Failure {}
-
-impl From<AllocError> for Failure {
-    fn from(_e: AllocError) -> Failure {
-        Failure::NoMemory
-    }
-}
-
-impl<T: Drop> From<AllocFailed<T>> for Failure {
-    fn from(_e: AllocFailed<T>) -> Failure {
-        Failure::NoMemory
-    }
-}
-
-impl From<Fault> for Failure {
-    fn from(fault: Fault) -> Failure {
-        Failure::Refused(fault)
-    }
 }

@@ -1,13 +1,13 @@
-//! Bytes and words in lower-case hex.
+//! Bytes and tags in lower-case hex.
 use std::fmt;
 
-/// A nonce to print.
+/// Bytes to print.
 #[derive(Clone, Copy)]
-pub struct NonceBytes(pub [u8; 6]);
+pub struct Hex<'a>(pub &'a [u8]);
 
-impl fmt::Display for NonceBytes {
+impl fmt::Display for Hex<'_> {
     fn fmt<W: fmt::Write>(&self, f: &mut fmt::Formatter<W>) -> fmt::Result {
-        for byte in &self.0 {
+        for byte in self.0 {
             write!(f, "{byte:02x}")?;
         }
         Ok(())
@@ -20,10 +20,8 @@ pub struct Tag(pub [u16; 8]);
 
 impl fmt::Display for Tag {
     fn fmt<W: fmt::Write>(&self, f: &mut fmt::Formatter<W>) -> fmt::Result {
-        for word in &self.0 {
-            let [low, high] = word.to_le_bytes();
-            write!(f, "{low:02x}{high:02x}")?;
-        }
-        Ok(())
+        let bytes = self.0.map(|word| word.to_le_bytes());
+        let hex = Hex(bytes.as_flattened());
+        write!(f, "{hex}")
     }
 }

@@ -3,85 +3,57 @@ use crate::failure::Failure;
 use crate::scenario::{ALTERATION, Fate, PLANS};
 use link::{Call, Entry, ReceiverCall, SealerEntry};
 use std::alloc::Global;
+use std::slice::Iter;
 
-/// Where the joint stands in the scenario.
-#[derive(Clone, Copy)]
-struct Joint {
-    /// How many messages were begun.
-    begun: usize,
-    /// The place of the next word in the latest of them.
-    place: u16,
-}
-
-impl Joint {
-    /// What becomes of the next word.
-    fn next_fate(&mut self) -> Fate {
-        let place = self.place;
-        self.place = place.saturating_add(1);
-        match PLANS.get(self.begun.saturating_sub(1)) {
-            Some(plan) => plan.fate(place),
-            None => Fate::Comes,
-        }
-    }
-
-    /// Adds the receiver's calls for the next wire word: the word as it comes, if it comes, and a break after the last word of a loss.
-    fn word(&mut self, mask: u16, wire: u16, calls: &mut Vec<Call>) -> Result<(), Failure> {
-        let call = match self.next_fate() {
-            Fate::Comes => ReceiverCall::Word { mask, wire },
-            Fate::Altered => ReceiverCall::Word {
+impl Fate {
+    /// The receiver's call that comes of a wire word: the word as it comes, if it comes, and a break after the last word of a loss.
+    fn of_word(self, mask: u16, wire: u16) -> Option<ReceiverCall> {
+        match self {
+            Fate::Comes => Some(ReceiverCall::Word { mask, wire }),
+            Fate::Altered => Some(ReceiverCall::Word {
                 mask,
                 wire: wire ^ ALTERATION,
-            },
-            Fate::Lost => return Ok(()),
-            Fate::LostLast => ReceiverCall::Break,
-        };
-        calls.push(Call::OnReceiver(call))?;
-        Ok(())
-    }
-
-    /// Adds the receiver's begin of the next message.
-    fn begin(
-        &mut self,
-        heap: Global,
-        nonce: &[u8; 6],
-        calls: &mut Vec<Call>,
-    ) -> Result<(), Failure> {
-        self.begun = self.begun.saturating_add(1);
-        self.place = 0;
-        let bytes = nonce.to_vec(heap)?;
-        calls.push(Call::OnReceiver(ReceiverCall::Begin(bytes)))?;
-        Ok(())
-    }
-
-    /// Adds the receiver's calls that come of a call on the sealer.
-    fn carry(
-        &mut self,
-        heap: Global,
-        entry: &SealerEntry,
-        calls: &mut Vec<Call>,
-    ) -> Result<(), Failure> {
-        match entry {
-            SealerEntry::Begun(nonce) => self.begin(heap, nonce, calls),
-            SealerEntry::Sealed { mask, wire, .. } => self.word(*mask, *wire, calls),
-            SealerEntry::Finished(tag) => {
-                calls.push(Call::OnReceiver(ReceiverCall::Finish(*tag)))?;
-                Ok(())
-            }
-            SealerEntry::Abandoned => Ok(()),
-            SealerEntry::Refused { fault, .. } => Err(Failure::Refused(*fault)),
-            SealerEntry::OutOfTurn(_) => Err(Failure::NotMade),
+            }),
+            Fate::Lost => None,
+            Fate::LostLast => Some(ReceiverCall::Break),
         }
+    }
+}
+
+/// The receiver's call that comes of a call on the sealer, if one comes. The next of the fates is that of the next word.
+fn carried(
+    heap: Global,
+    entry: &SealerEntry,
+    fates: &mut Iter<'_, Fate>,
+) -> Result<Option<ReceiverCall>, Failure> {
+    match entry {
+        SealerEntry::Begun(nonce) => Ok(Some(ReceiverCall::Begin(nonce.to_vec(heap)?))),
+        SealerEntry::Sealed { mask, wire, .. } => {
+            let fate = fates.next().unwrap_or(&Fate::Comes);
+            Ok(fate.of_word(*mask, *wire))
+        }
+        SealerEntry::Finished(tag) => Ok(Some(ReceiverCall::Finish(*tag))),
+        SealerEntry::Abandoned => Ok(None),
+        SealerEntry::Refused { fault, .. } => Err(Failure::Refused(*fault)),
+        SealerEntry::OutOfTurn(_) => Err(Failure::NotMade),
     }
 }
 
 /// The calls of the whole link: each call on the sealer, and behind it what comes of it at the receiver, by the log of those calls.
-pub(crate) fn calls(heap: Global, sealing: Vec<Call>, log: &[Entry]) -> Result<Vec<Call>, Failure> {
-    let mut joint = Joint { begun: 0, place: 0 };
+pub(crate) fn calls(sealing: Vec<Call>, log: &[Entry]) -> Result<Vec<Call>, Failure> {
+    let heap = *sealing.allocator();
+    let fates: Vec<Fate> = PLANS
+        .iter()
+        .flat_map(|plan| (0..plan.words).map(|place| plan.fate(place)))
+        .collect(heap)?;
+    let mut fates = fates.iter();
     let mut calls = Vec::new(heap);
-    for (call, entry) in sealing.into_iter().zip(log.iter()) {
+    for (call, entry) in sealing.into_iter().zip(log) {
         calls.push(call)?;
-        if let Entry::OfSealer(entry) = entry {
-            joint.carry(heap, entry, &mut calls)?;
+        if let Entry::OfSealer(entry) = entry
+            && let Some(call) = carried(heap, entry, &mut fates)?
+        {
+            calls.push(Call::OnReceiver(call))?;
         }
     }
     Ok(calls)

@@ -1,10 +1,10 @@
 //! The lines of the report.
-use crate::hex::{NonceBytes, Tag};
-use crate::passage::{Event, Passage, Sent};
+use crate::hex::{Hex, Tag};
+use crate::passage::{Event, Sent};
 use crate::places::Places;
-use crate::rows::Rows;
+use crate::span::Span;
+use arrayvec::ArrayVec;
 use link::{Answer, Verdict};
-use std::alloc::{AllocError, Global};
 use std::fmt;
 
 /// The most readings on a line.
@@ -21,7 +21,7 @@ pub enum Line {
     /// Readings of words in a row, each the plaintext of its word.
     Readings {
         places: Places,
-        values: Vec<u16>,
+        values: ArrayVec<u16, WIDTH>,
     },
     /// A reading that is not the plaintext of its word.
     False {
@@ -32,7 +32,7 @@ pub enum Line {
     /// Words in a row that are withheld, with rows that rise one by one.
     Withheld {
         places: Places,
-        rows: Rows,
+        rows: Span<u8>,
     },
     /// Words in a row that are lost.
     Lost(Places),
@@ -53,98 +53,79 @@ pub enum Line {
     Abandoned,
 }
 
+impl From<&Event> for Line {
+    fn from(event: &Event) -> Line {
+        match *event {
+            Event::Begun { message, nonce } => Line::Heading { message, nonce },
+            Event::Word { sent, answer } => Line::of_word(&sent, answer),
+            Event::Altered { sent, came } => Line::Altered {
+                places: Places::from(&sent),
+                wire: sent.wire,
+                came,
+            },
+            Event::Break => Line::Break,
+            Event::Ended { tag, verdict } => Line::Ended { tag, verdict },
+            Event::Abandoned => Line::Abandoned,
+        }
+    }
+}
+
 impl Line {
     /// The line of a word alone.
-    fn of_word(heap: Global, sent: &Sent, passage: &Passage) -> Result<Line, AllocError> {
-        let places = Places::of(sent);
+    fn of_word(sent: &Sent, answer: Option<Answer>) -> Line {
+        let places = Places::from(sent);
         let plain = sent.plain;
-        match passage {
-            Passage::Lost => Ok(Line::Lost(places)),
-            Passage::Received(Answer::Withheld(row)) => Ok(Line::Withheld {
+        match answer {
+            None => Line::Lost(places),
+            Some(Answer::Withheld(row)) => Line::Withheld {
                 places,
-                rows: Rows::of(*row),
-            }),
-            Passage::Received(Answer::Reading(reading)) if *reading != plain => Ok(Line::False {
+                rows: Span::of(row),
+            },
+            Some(Answer::Reading(reading)) if reading != plain => Line::False {
                 places,
-                reading: *reading,
+                reading,
                 plain,
-            }),
-            Passage::Received(Answer::Reading(reading)) => {
-                let values = vec![in heap; *reading]?;
-                Ok(Line::Readings { places, values })
+            },
+            Some(Answer::Reading(reading)) => {
+                let mut values = ArrayVec::new();
+                values.push(reading);
+                Line::Readings { places, values }
             }
         }
     }
 
-    /// The line of one thing that is seen.
-    pub(crate) fn of(heap: Global, event: &Event) -> Result<Line, AllocError> {
-        match event {
-            Event::Begun { message, nonce } => Ok(Line::Heading {
-                message: *message,
-                nonce: *nonce,
-            }),
-            Event::Word(sent, passage) => Line::of_word(heap, sent, passage),
-            Event::Altered { sent, came } => Ok(Line::Altered {
-                places: Places::of(sent),
-                wire: sent.wire,
-                came: *came,
-            }),
-            Event::Break => Ok(Line::Break),
-            Event::Ended { tag, verdict } => Ok(Line::Ended {
-                tag: *tag,
-                verdict: *verdict,
-            }),
-            Event::Abandoned => Ok(Line::Abandoned),
-        }
-    }
-
-    /// Takes the next word into this line, where the line tells of a row of words that it carries on.
-    pub(crate) fn takes(&mut self, sent: &Sent, passage: &Passage) -> Result<bool, AllocError> {
-        match (self, passage) {
-            (Line::Lost(places), Passage::Lost) => Ok(places.takes(sent)),
-            (Line::Withheld { places, rows }, Passage::Received(Answer::Withheld(row))) => {
-                let goes_on = rows.lead_to(*row) && places.takes(sent);
+    /// Takes what is seen next into this line, where the line tells of a row of words that it carries on.
+    pub(crate) fn takes(&mut self, event: &Event) -> bool {
+        let Event::Word { sent, answer } = event else {
+            return false;
+        };
+        match (self, answer) {
+            (Line::Lost(places), None) => places.takes(sent),
+            (Line::Withheld { places, rows }, Some(Answer::Withheld(row))) => {
+                let goes_on = rows.leads_to(*row) && places.takes(sent);
                 if goes_on {
                     rows.take(*row);
                 }
-                Ok(goes_on)
+                goes_on
             }
-            (Line::Readings { places, values }, Passage::Received(Answer::Reading(reading))) => {
-                let goes_on = *reading == sent.plain && values.len() < WIDTH && places.takes(sent);
+            (Line::Readings { places, values }, Some(Answer::Reading(reading))) => {
+                let goes_on = *reading == sent.plain && !values.is_full() && places.takes(sent);
                 if goes_on {
-                    values.push(*reading)?;
+                    values.push(*reading);
                 }
-                Ok(goes_on)
+                goes_on
             }
-            _ => Ok(false),
+            _ => false,
         }
     }
 }
 
-/// Readings to print.
-#[derive(Clone, Copy)]
-struct Values<'a>(&'a [u16]);
-
-impl fmt::Display for Values<'_> {
-    fn fmt<W: fmt::Write>(&self, f: &mut fmt::Formatter<W>) -> fmt::Result {
-        for value in self.0 {
-            write!(f, " {value:04x}")?;
-        }
-        Ok(())
-    }
-}
-
-/// A verdict to print.
-#[derive(Clone, Copy)]
-struct Judgement(Verdict);
-
-impl fmt::Display for Judgement {
-    fn fmt<W: fmt::Write>(&self, f: &mut fmt::Formatter<W>) -> fmt::Result {
-        match self.0 {
-            Verdict::Agrees => write!(f, "agrees"),
-            Verdict::Differs => write!(f, "differs"),
-            Verdict::Broken => write!(f, "broken"),
-        }
+/// What is said of a verdict.
+fn judgement(verdict: Verdict) -> &'static str {
+    match verdict {
+        Verdict::Agrees => "agrees",
+        Verdict::Differs => "differs",
+        Verdict::Broken => "broken",
     }
 }
 
@@ -152,12 +133,14 @@ impl fmt::Display for Line {
     fn fmt<W: fmt::Write>(&self, f: &mut fmt::Formatter<W>) -> fmt::Result {
         match self {
             Line::Heading { message, nonce } => {
-                let nonce = NonceBytes(*nonce);
-                write!(f, "message {message}, nonce {nonce}")
+                write!(f, "message {message}, nonce {}", Hex(nonce))
             }
             Line::Readings { places, values } => {
-                let values = Values(values.as_slice());
-                write!(f, "  {places}: reading{values}")
+                write!(f, "  {places}: reading")?;
+                for value in values {
+                    write!(f, " {value:04x}")?;
+                }
+                Ok(())
             }
             Line::False {
                 places,
@@ -167,7 +150,10 @@ impl fmt::Display for Line {
                 f,
                 "  {places}: reading {reading:04x} false, the plaintext is {plain:04x}"
             ),
-            Line::Withheld { places, rows } => write!(f, "  {places}: {rows}"),
+            Line::Withheld { places, rows } if rows.is_one() => {
+                write!(f, "  {places}: withheld {rows}")
+            }
+            Line::Withheld { places, rows } => write!(f, "  {places}: withheld, rows {rows}"),
             Line::Lost(places) => write!(f, "  {places}: lost at a weld"),
             Line::Altered { places, wire, came } => {
                 write!(
@@ -178,8 +164,7 @@ impl fmt::Display for Line {
             Line::Break => write!(f, "  break: the receiver is told of the loss"),
             Line::Ended { tag, verdict } => {
                 let tag = Tag(*tag);
-                let verdict = Judgement(*verdict);
-                write!(f, "  tag {tag}: verdict {verdict}")
+                write!(f, "  tag {tag}: verdict {}", judgement(*verdict))
             }
             Line::Abandoned => write!(f, "  abandoned by the sealer: no tag, no verdict"),
         }

@@ -12,9 +12,9 @@ mod line;
 mod passage;
 mod places;
 mod report;
-mod rows;
 mod scenario;
 mod sending;
+mod span;
 mod spot;
 mod tally;
 
@@ -41,9 +41,9 @@ fn observed(heap: Global) -> Result<Findings, Failure>
 {
     let mut issuer = Issuer::new(scenario::RUN);
     let link = crossing::whole_run(heap, &mut issuer)?;
-    let events = passage::events(heap, link.log.as_slice())?;
-    let lines = report::lines(heap, events.as_slice())?;
-    let tally = Tally::of(events.as_slice());
+    let events = passage::events(heap, &link.log)?;
+    let lines = report::lines(heap, &events)?;
+    let tally = Tally::of(&events);
     let spot = spot::spot_check(issuer.draw()?, scenario::thickness(0))?;
     Ok(Findings {
         link,
@@ -62,7 +62,7 @@ fn reported(rt: &HostRuntime) -> anyhow::Result<()> {
         ..
     } = observed(rt.alloc())?;
     report::opening(rt)?;
-    report::print(rt, lines.as_slice())?;
+    report::print(rt, &lines)?;
     println!(rt; "{spot}")?;
     println!(rt; "{tally}")?;
     Ok(())

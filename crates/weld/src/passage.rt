@@ -1,10 +1,11 @@
 //! The log of a run read as what an onlooker at the joint sees: which received word is which word of which message.
 ghost use Rattle.std.specs.Prelude.{◌≡◌, IfOk, OnOk};
-ghost use Rattle.weld.specs.Passages.{message_begun, noted, reading, receiver_noted, sealer_noted, seen_in, settled, word_received, word_sent};
+ghost use Rattle.weld.specs.Passages.{Reading, message_begun, noted, receiver_noted, sealer_noted, seeing, seen_in, settled, word_received, word_sent};
 
 use crate::failure::Failure;
 use link::{Answer, Entry, ReceiverEntry, SealerEntry, Verdict};
 use std::alloc::Global;
+use std::marker::Model;
 
 /// A word of a message as the sealer took it.
 #[derive(Clone, Copy)]
@@ -17,22 +18,13 @@ pub struct Sent {
     pub wire: u16,
 }
 
-/// What became of a word.
-#[derive(Clone, Copy)]
-pub enum Passage {
-    /// It was not received.
-    Lost,
-    /// It was received, with this answer.
-    Received(Answer),
-}
-
 /// One thing that is seen.
 #[derive(Clone, Copy)]
 pub enum Event {
     /// A message is begun: the number of messages so far, and its nonce.
     Begun { message: usize, nonce: [u8; 6] },
-    /// A word was sent, and this became of it.
-    Word(Sent, Passage),
+    /// A word was sent, and the receiver answered this, or did not receive it.
+    Word { sent: Sent, answer: Option<Answer> },
     /// The word that comes next is received with another wire word.
     Altered { sent: Sent, came: u16 },
     /// The receiver is told of a loss.
@@ -44,6 +36,7 @@ pub enum Event {
 }
 
 /// A reader of a log.
+// Messages and places are counted as the log is read, and not by `enumerate`: a log is no list of either.
 #[derive(Drop)]
 struct Reader {
     /// How many messages were begun.
@@ -56,20 +49,35 @@ struct Reader {
     seen: Vec<Event>,
 }
 
+impl Model for Reader {
+    ghost Value = { Reading };
+
+    ghost view = { λ r. record { begun = r.begun; place = r.place; pending = r.pending; seen = r.seen.items } };
+}
+
 impl Reader {
     /// The word under way was not received before something else happened: it is lost.
     fn settle(&mut self) -> Result<(), Failure>
-        ensures { OnOk result (reading self.new ≡ settled (reading self.old)) }
+        ensures { OnOk result (self.new ≡ settled self.old) }
     {
         if let Some(sent) = self.pending.take() {
-            self.seen.push(Event::Word(sent, Passage::Lost))?;
+            self.seen.push(Event::Word { sent, answer: None })?;
         }
+        Ok(())
+    }
+
+    /// Something is seen that is not that the word under way is received.
+    fn see(&mut self, event: Event) -> Result<(), Failure>
+        ensures { OnOk result (self.new ≡ seeing event (settled self.old)) }
+    {
+        self.settle()?;
+        self.seen.push(event)?;
         Ok(())
     }
 
     /// A message is begun.
     fn begun(&mut self, nonce: [u8; 6]) -> Result<(), Failure>
-        ensures { OnOk result (reading self.new ≡ message_begun nonce (reading self.old)) }
+        ensures { OnOk result (self.new ≡ message_begun nonce self.old) }
     {
         self.begun = self.begun.saturating_add(1);
         self.place = 0;
@@ -80,7 +88,7 @@ impl Reader {
 
     /// A word is sent.
     fn sent(&mut self, mask: u16, plain: u16, wire: u16)
-        ensures { reading self.new ≡ word_sent mask plain wire (reading self.old) }
+        ensures { self.new ≡ word_sent mask plain wire self.old }
     {
         let place = self.place;
         self.pending = Some(Sent {
@@ -94,7 +102,7 @@ impl Reader {
 
     /// A word is received: it is the one under way.
     fn received(&mut self, wire: u16, answer: Answer) -> Result<(), Failure>
-        ensures { OnOk result (reading self.new ≡ word_received wire answer (reading self.old)) }
+        ensures { OnOk result (self.new ≡ word_received wire answer self.old) }
     {
         let Some(sent) = self.pending.take() else {
             return Err(Failure::NotSent);
@@ -102,14 +110,14 @@ impl Reader {
         if wire != sent.wire {
             self.seen.push(Event::Altered { sent, came: wire })?;
         }
-        self.seen
-            .push(Event::Word(sent, Passage::Received(answer)))?;
+        let answer = Some(answer);
+        self.seen.push(Event::Word { sent, answer })?;
         Ok(())
     }
 
     /// Takes a call on the sealer.
     fn of_sealer(&mut self, entry: &SealerEntry) -> Result<(), Failure>
-        ensures { OnOk result (reading self.new ≡ sealer_noted (reading self.old) entry.now) }
+        ensures { OnOk result (self.new ≡ sealer_noted self.old entry.now) }
     {
         self.settle()?;
         match entry {
@@ -125,31 +133,23 @@ impl Reader {
 
     /// Takes a call on the receiver.
     fn of_receiver(&mut self, entry: &ReceiverEntry) -> Result<(), Failure>
-        ensures { OnOk result (reading self.new ≡ receiver_noted (reading self.old) entry.now) }
+        ensures { OnOk result (self.new ≡ receiver_noted self.old entry.now) }
     {
         match entry {
             ReceiverEntry::Begun(_) => Ok(()),
             ReceiverEntry::Refused { fault, .. } => Err(Failure::Refused(*fault)),
             ReceiverEntry::Received { wire, answer, .. } => self.received(*wire, *answer),
-            ReceiverEntry::BrokenOff => {
-                self.settle()?;
-                self.seen.push(Event::Break)?;
-                Ok(())
-            }
-            ReceiverEntry::Finished { tag, verdict } => {
-                self.settle()?;
-                self.seen.push(Event::Ended {
-                    tag: *tag,
-                    verdict: *verdict,
-                })?;
-                Ok(())
-            }
+            ReceiverEntry::BrokenOff => self.see(Event::Break),
+            ReceiverEntry::Finished { tag, verdict } => self.see(Event::Ended {
+                tag: *tag,
+                verdict: *verdict,
+            }),
         }
     }
 
     /// Takes a call.
     fn take(&mut self, entry: &Entry) -> Result<(), Failure>
-        ensures { OnOk result (reading self.new ≡ noted (reading self.old) entry.now) }
+        ensures { OnOk result (self.new ≡ noted self.old entry.now) }
     {
         match entry {
             Entry::OfSealer(entry) => self.of_sealer(entry),
@@ -159,6 +159,7 @@ impl Reader {
 }
 
 /// What is seen in a run, by its log.
+#[tactic(auto, unfolding(crate::specs::Passages::seen_in))]
 pub(crate) fn events(heap: Global, log: &[Entry]) -> Result<Vec<Event>, Failure>
     ensures { IfOk result (λ v. v.items ≡ seen_in log.now) }
 {

@@ -1,6 +1,7 @@
 //! Words of a message by their places.
 use crate::passage::Sent;
 use crate::scenario::{OPEN, SEALED};
+use crate::span::Span;
 use std::fmt;
 
 /// How much of a word is sealed.
@@ -14,9 +15,8 @@ pub enum Kind {
     Part(u16),
 }
 
-impl Kind {
-    /// The kind that a mask makes.
-    fn of(mask: u16) -> Kind {
+impl From<u16> for Kind {
+    fn from(mask: u16) -> Kind {
         match mask {
             SEALED => Kind::Sealed,
             OPEN => Kind::Open,
@@ -38,47 +38,34 @@ impl fmt::Display for Kind {
 /// Words in a row that are of one kind.
 #[derive(Clone, Copy)]
 pub struct Places {
-    first: u16,
-    last: u16,
+    span: Span<u16>,
     kind: Kind,
 }
 
-impl Places {
-    /// One word.
-    pub(crate) fn of(sent: &Sent) -> Places {
+impl From<&Sent> for Places {
+    fn from(sent: &Sent) -> Places {
         Places {
-            first: sent.place,
-            last: sent.place,
-            kind: Kind::of(sent.mask),
+            span: Span::of(sent.place),
+            kind: sent.mask.into(),
         }
     }
+}
 
-    /// Whether there is one word.
-    pub(crate) fn one(&self) -> bool {
-        self.first == self.last
-    }
-
+impl Places {
     /// Takes the next word in, if it follows and is of the same kind.
     pub(crate) fn takes(&mut self, sent: &Sent) -> bool {
-        let follows = self.last.checked_add(1) == Some(sent.place);
-        if follows && self.kind == Kind::of(sent.mask) {
-            self.last = sent.place;
-            true
-        } else {
-            false
+        let goes_on = self.span.leads_to(sent.place) && self.kind == sent.mask.into();
+        if goes_on {
+            self.span.take(sent.place);
         }
+        goes_on
     }
 }
 
 impl fmt::Display for Places {
     fn fmt<W: fmt::Write>(&self, f: &mut fmt::Formatter<W>) -> fmt::Result {
-        let first = self.first;
-        let last = self.last;
-        let kind = self.kind;
-        if self.one() {
-            write!(f, "word {first}{kind}")
-        } else {
-            write!(f, "words {first} to {last}{kind}")
-        }
+        let Places { span, kind } = self;
+        let label = if span.is_one() { "word" } else { "words" };
+        write!(f, "{label} {span}{kind}")
     }
 }

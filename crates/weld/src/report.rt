@@ -6,24 +6,15 @@ use crate::scenario::RUN;
 use std::alloc::Global;
 use std::io;
 
-/// Adds one thing that is seen: to the last line, where that tells of a row of words that it carries on, or as a line of its own.
-fn add(heap: Global, event: &Event, lines: &mut Vec<Line>) -> Result<(), Failure> {
-    if let Event::Word(sent, passage) = event {
-        if let Some(line) = lines.last_mut() {
-            if line.takes(sent, passage)? {
-                return Ok(());
-            }
-        }
-    }
-    lines.push(Line::of(heap, event)?)?;
-    Ok(())
-}
-
-/// The lines that tell what is seen.
+/// The lines that tell what is seen: each thing is told in the last line, where that tells of a row of words that it carries on, or in a line
+/// of its own.
 pub(crate) fn lines(heap: Global, events: &[Event]) -> Result<Vec<Line>, Failure> {
-    let mut lines = Vec::new(heap);
+    let mut lines: Vec<Line> = Vec::new(heap);
     for event in events {
-        add(heap, event, &mut lines)?;
+        let told = lines.last_mut().is_some_and(|line| line.takes(event));
+        if !told {
+            lines.push(Line::from(event))?;
+        }
     }
     Ok(lines)
 }

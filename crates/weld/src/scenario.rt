@@ -1,6 +1,9 @@
 //! The scenario: four messages, and what the joint of the pipe does to them.
 ghost use Rattle.std.specs.Prelude.{◌≡◌, ◌+◌, ◌*◌, ◌%◌};
 
+use crate::span::Span;
+use link::SealerCall;
+
 /// The key of both ends.
 pub(crate) const KEY: [u8; 8] = [0x46, 0x75, 0x74, 0x73, 0x61, 0x6d, 0x62, 0x6f];
 
@@ -31,13 +34,6 @@ pub enum Ending {
     Abandoned,
 }
 
-/// Words that are lost at a weld, from the first to the last.
-#[derive(Clone, Copy)]
-pub struct Loss {
-    pub first: u16,
-    pub last: u16,
-}
-
 /// What becomes of a word on the way.
 #[derive(Clone, Copy)]
 pub enum Fate {
@@ -60,8 +56,8 @@ pub struct Plan {
     pub marks: &'static [u16],
     /// The place of its part word.
     pub part: Option<u16>,
-    /// Which words are lost.
-    pub losses: &'static [Loss],
+    /// Which words are lost at a weld, each loss by its places.
+    pub losses: &'static [Span<u16>],
     /// The place of the word that is altered on the way.
     pub altered: Option<u16>,
     /// How it ends.
@@ -75,11 +71,11 @@ pub(crate) const PLANS: [Plan; 4] = [
         marks: &[5, 33, 41],
         part: None,
         losses: &[
-            Loss {
+            Span {
                 first: 12,
                 last: 14,
             },
-            Loss {
+            Span {
                 first: 38,
                 last: 40,
             },
@@ -91,7 +87,7 @@ pub(crate) const PLANS: [Plan; 4] = [
         words: 30,
         marks: &[],
         part: None,
-        losses: &[Loss { first: 6, last: 8 }],
+        losses: &[Span { first: 6, last: 8 }],
         altered: None,
         ending: Ending::Abandoned,
     },
@@ -121,24 +117,19 @@ pub(crate) fn thickness(place: u16) -> u16
 }
 
 impl Plan {
-    /// The mask of the word at a place.
-    pub(crate) fn mask(&self, place: u16) -> u16 {
+    /// The call that seals the word at a place: the mileage at a mark, in an open word, and else the wall thickness.
+    pub(crate) fn word(&self, place: u16) -> SealerCall {
         if self.marks.contains(&place) {
-            OPEN
-        } else if self.part == Some(place) {
+            let plain = MILEAGE.saturating_add(place);
+            return SealerCall::Word { mask: OPEN, plain };
+        }
+        let mask = if self.part == Some(place) {
             PART
         } else {
             SEALED
-        }
-    }
-
-    /// The plaintext of the word at a place: the mileage at a mark, and else the wall thickness.
-    pub(crate) fn plain(&self, place: u16) -> u16 {
-        if self.marks.contains(&place) {
-            MILEAGE.saturating_add(place)
-        } else {
-            thickness(place)
-        }
+        };
+        let plain = thickness(place);
+        SealerCall::Word { mask, plain }
     }
 
     /// What becomes of the word at a place.
@@ -146,14 +137,10 @@ impl Plan {
         if self.altered == Some(place) {
             return Fate::Altered;
         }
-        for loss in self.losses {
-            if place == loss.last {
-                return Fate::LostLast;
-            }
-            if loss.first <= place && place < loss.last {
-                return Fate::Lost;
-            }
+        match self.losses.iter().find(|loss| loss.contains(&place)) {
+            Some(loss) if loss.last == place => Fate::LostLast,
+            Some(_) => Fate::Lost,
+            None => Fate::Comes,
         }
-        Fate::Comes
     }
 }

@@ -7,11 +7,7 @@ use std::alloc::Global;
 /// Adds the calls that seal one message.
 fn message(plan: &Plan, nonce: Nonce, calls: &mut Vec<Call>) -> Result<(), Failure> {
     calls.push(Call::OnSealer(SealerCall::Begin(nonce)))?;
-    for place in 0..plan.words {
-        let mask = plan.mask(place);
-        let plain = plan.plain(place);
-        calls.push(Call::OnSealer(SealerCall::Word { mask, plain }))?;
-    }
+    calls.extend((0..plan.words).map(|place| Call::OnSealer(plan.word(place))))?;
     let end = match plan.ending {
         Ending::Finished => SealerCall::Finish,
         Ending::Abandoned => SealerCall::Abandon,

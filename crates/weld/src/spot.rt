@@ -16,6 +16,7 @@ pub struct SpotCheck {
 
 /// Begins a message, seals one word of it and finishes it.
 pub(crate) fn spot_check(nonce: Nonce, plain: u16) -> Result<SpotCheck, Failure> {
+    // The run loads its key by the same two lines: one function for both is no plainer, since its contract is longer than they are.
     let mut function = FilledTable::new();
     function.load(&KEY)?;
     let ready = ReadySealer::new(function, PrintedTable);
@@ -27,9 +28,8 @@ pub(crate) fn spot_check(nonce: Nonce, plain: u16) -> Result<SpotCheck, Failure>
 
 impl fmt::Display for SpotCheck {
     fn fmt<W: fmt::Write>(&self, f: &mut fmt::Formatter<W>) -> fmt::Result {
-        let plain = self.plain;
-        let wire = self.wire;
-        let tag = Tag(self.tag);
+        let SpotCheck { plain, wire, tag } = self;
+        let tag = Tag(*tag);
         write!(
             f,
             "one word sealed by hand, in a message of its own: plaintext {plain:04x}, wire {wire:04x}, tag {tag}"

@@ -1,13 +1,13 @@
 //! The counts of a run.
 ghost use Rattle.std.specs.Prelude.{◌≡◌};
-ghost use Rattle.weld.specs.Tallies.{after_answer, after_event, after_sent, counted, fresh};
+ghost use Rattle.weld.specs.Tallies.{after_answer, after_event, after_sent, counted};
 
-use crate::passage::{Event, Passage};
+use crate::passage::Event;
 use link::Answer;
 use std::fmt;
 
 /// How many words were sent, and what came of them.
-#[derive(Clone, Copy)]
+#[derive(Clone, Copy, Default)]
 pub struct Tally {
     /// The words that the sealer took.
     pub sealed: usize,
@@ -22,19 +22,6 @@ pub struct Tally {
 }
 
 impl Tally {
-    /// No word yet.
-    fn new() -> Tally
-        ensures { result ≡ fresh }
-    {
-        Tally {
-            sealed: 0,
-            received: 0,
-            handed: 0,
-            withheld: 0,
-            wrong: 0,
-        }
-    }
-
     /// Counts a word that was sent.
     fn sent(&mut self)
         ensures { self.new ≡ after_sent self.old }
@@ -65,10 +52,11 @@ impl Tally {
         ensures { self.new ≡ after_event self.old event.now }
     {
         match event {
-            Event::Word(_, Passage::Lost) => self.sent(),
-            Event::Word(sent, Passage::Received(answer)) => {
+            Event::Word { sent, answer } => {
                 self.sent();
-                self.answered(sent.plain, *answer);
+                if let Some(answer) = answer {
+                    self.answered(sent.plain, *answer);
+                }
             }
             Event::Begun { .. }
             | Event::Altered { .. }
@@ -79,24 +67,26 @@ impl Tally {
     }
 
     /// The counts of all that is seen.
+    #[tactic(auto, unfolding(crate::specs::Tallies::counted))]
     pub(crate) fn of(events: &[Event]) -> Tally
         ensures { result ≡ counted events.now }
     {
-        let mut tally = Tally::new();
-        for event in events {
+        events.iter().fold(Tally::default(), |mut tally, event| {
             tally.count(event);
-        }
-        tally
+            tally
+        })
     }
 }
 
 impl fmt::Display for Tally {
     fn fmt<W: fmt::Write>(&self, f: &mut fmt::Formatter<W>) -> fmt::Result {
-        let sealed = self.sealed;
-        let received = self.received;
-        let handed = self.handed;
-        let withheld = self.withheld;
-        let wrong = self.wrong;
+        let Tally {
+            sealed,
+            received,
+            handed,
+            withheld,
+            wrong,
+        } = self;
         write!(
             f,
             "sealed {sealed} received {received} handed-out {handed} withheld {withheld} false {wrong}"

@@ -1,0 +1,53 @@
+//! Numbers in a row.
+use std::fmt;
+
+/// Numbers that rise one by one, from the first to the last.
+// No range of the library: one with its last number cannot stand in a constant, and one without has no last number to go on from.
+#[derive(Clone, Copy)]
+pub struct Span<T> {
+    pub first: T,
+    pub last: T,
+}
+
+impl<T: PartialOrd> Span<T> {
+    /// Whether this number is among them.
+    pub(crate) fn contains(&self, number: &T) -> bool {
+        self.first <= *number && *number <= self.last
+    }
+}
+
+impl<T: Copy + PartialEq + Into<u32>> Span<T> {
+    /// One number.
+    pub(crate) fn of(number: T) -> Self {
+        Span {
+            first: number,
+            last: number,
+        }
+    }
+
+    /// Whether there is one number.
+    pub(crate) fn is_one(&self) -> bool {
+        self.first == self.last
+    }
+
+    /// Whether this number comes next.
+    pub(crate) fn leads_to(&self, number: T) -> bool {
+        self.last.into().checked_add(1) == Some(number.into())
+    }
+
+    /// Takes the next number in.
+    pub(crate) fn take(&mut self, number: T) {
+        self.last = number;
+    }
+}
+
+impl<T: fmt::Display + PartialEq> fmt::Display for Span<T> {
+    fn fmt<W: fmt::Write>(&self, f: &mut fmt::Formatter<W>) -> fmt::Result {
+        let Span { first, last } = self;
+        if first == last {
+            write!(f, "{first}")
+        } else {
+            write!(f, "{first} to {last}")
+        }
+    }
+}
