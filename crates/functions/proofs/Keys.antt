@@ -2,7 +2,7 @@
 use Rattle.std.proofs.Common.{◌≡◌, ℕ, suc, ◌+◌, ◌*◌, ◌/◌, ◌%◌, ◌<◌, ◌≤◌, List, [], ◌∷◌, length, get_or, drop, replicate, sym, refl, ap, ◌∙◌, subst, inl, inr, arith}
 use lib.Bits.{bit_xor, xor_lt, xor_comm}
 use Rattle.std.proofs.lemmas.List.FromFn.{get_or-map-range_with_len, length-map-range_with_len}
-use Rattle.std.proofs.lemmas.List.{at_drop_more, at_drop_all, get_or_past}
+use Rattle.std.proofs.lemmas.List.{at_drop_more, at_drop_all, get_or_past, get_or-replicate, length-replicate}
 use Rattle.std.proofs.lemmas.Bool.{cases_lt}
 use Rattle.sss.specs.Tables.{skipjack, qbox}
 use Rattle.sss.specs.Cipher.{Word, Lawful, keyed, key_byte, key_word, key_entry, key_table, rotate}
@@ -93,6 +93,19 @@ module _ (key : List ℕ) (bytes : Bytes key) where
     apart = λ i j h l e. key_byte_apart key bytes i j h l (sym (key_entry_high i h) ∙ e ∙ key_entry_high j l);
   }
 
--- The table that is all zero keeps the law.
-pub zeros_lawful : Lawful (replicate 256 0)
-zeros_lawful = subst Lawful key_table_none (key_table_lawful [] (λ i. omega arith))
+-- A table whose entries are all one word keeps the law.
+pub one_word_lawful : (w : ℕ) → Word w → Lawful (replicate 256 w)
+one_word_lawful w h =
+    let all : List ℕ = replicate 256 w in
+    let long : length all ≡ 256 = length-replicate 256 w in
+    let at : (i : ℕ) → i < 256 → get_or all i 0 ≡ w = λ i lt. get_or-replicate 256 i w 0 lt in
+    record {
+      count = long;
+      words = λ i. elim (cases_lt i 256) [
+        | inl lt ↦ subst Word (sym (at i lt)) h
+        | inr ge ↦ let past : get_or all i 0 ≡ 0 = get_or_past all i 0 (omega (arith, long)) in omega (arith, past)
+      ];
+      apart = λ i j hi hj e.
+          xor_cancel i j (w / 256)
+          (sym (ap (λ (x : ℕ). bit_xor i (x / 256)) (at i hi)) ∙ e ∙ ap (λ (x : ℕ). bit_xor j (x / 256)) (at j hj));
+    }

@@ -31,14 +31,6 @@ impl FromKey {
     }
 }
 
-impl Default for FromKey {
-    ghost is_default = { λ f. from_key_table f ≡ replicate 256 0 };
-
-    fn default() -> Self {
-        FromKey::new()
-    }
-}
-
 impl KeyedFunction for FromKey {
     ghost table = { from_key_table };
 

@@ -33,7 +33,6 @@ pub type GivenTable = Table<Given>;
 
 impl<R> Table<R> {
     /// The function of the table that is all zero, until a key or a table is loaded.
-    #[tactic(auto, using(crate::proofs::Keys::zeros_lawful))]
     pub fn new() -> Self
         ensures { result.entries ≡ replicate 256 0 }
     {
@@ -41,14 +40,6 @@ impl<R> Table<R> {
             entries: [0; 256],
             role: PhantomData,
         }
-    }
-}
-
-impl<R> Default for Table<R> {
-    ghost is_default = { λ f. f.entries ≡ replicate 256 0 };
-
-    fn default() -> Self {
-        Table::new()
     }
 }
 
