@@ -10,6 +10,7 @@ mod tests {
         run,
     };
     use sss::{Coefficient, Fault, KeyedFunction};
+    use std::alloc::{AllocError, Global};
     use std::process::Abort;
     use std::test::Fail;
 
@@ -349,6 +350,29 @@ mod tests {
         }
     }
 
+    // What the log of the next test notes of the receiver.
+    fn noted_of_refused(heap: Global) -> Result<[ReceiverEntry; 6], AllocError> {
+        let received = |answer| ReceiverEntry::Received {
+            mask: SEALED,
+            wire: 0x0123,
+            answer,
+        };
+        Ok([
+            ReceiverEntry::Refused {
+                nonce: [1].to_vec(heap)?,
+                fault: Fault::Nonce,
+            },
+            received(Answer::Withheld(1)),
+            ReceiverEntry::Begun(Vec::new(heap)),
+            received(Answer::Reading(0x80C5)),
+            ReceiverEntry::Finished {
+                tag: TAG,
+                verdict: Verdict::Differs,
+            },
+            ReceiverEntry::BrokenOff,
+        ])
+    }
+
     #[test]
     fn a_log_notes_refused_calls(rt: HostRuntime) -> Result<(), Fail> {
         let first = SealerCall::Begin(nonce(1, 2)?);
@@ -367,26 +391,7 @@ mod tests {
             receiver,
             log,
         } = made(rt, calls)?;
-        let refused = [1].to_vec(rt.alloc())?;
-        let received = |answer| ReceiverEntry::Received {
-            mask: SEALED,
-            wire: 0x0123,
-            answer,
-        };
-        let noted = [
-            ReceiverEntry::Refused {
-                nonce: refused,
-                fault: Fault::Nonce,
-            },
-            received(Answer::Withheld(1)),
-            ReceiverEntry::Begun(Vec::new(rt.alloc())),
-            received(Answer::Reading(0x80C5)),
-            ReceiverEntry::Finished {
-                tag: TAG,
-                verdict: Verdict::Differs,
-            },
-            ReceiverEntry::BrokenOff,
-        ];
+        let noted = noted_of_refused(rt.alloc())?;
         let Some((_, heard)) = log.as_slice().split_first() else {
             return Err(Fail::new("the log is empty"));
         };
