@@ -20,6 +20,7 @@ FLIP = 0x0100
 PER_LINE = 10
 
 OPENING = [
+    "known figures of cipher and link: all as published",
     f"run {RUN}: wall thicknesses in hundredths of a millimetre, in hex, sealed at one end of the link and received at the other",
     "words count from 0 in each message; a word is sealed unless it is open (a mileage mark, in metres) or part (the bits of its mask)",
     "withheld ROW: after a loss no reading is handed out until 17 sealed words in a row have come, and ROW of them have",

@@ -1,19 +1,16 @@
 -- The known figures, computed.
-use Rattle.std.proofs.Common.{◌≡◌, ℕ, List, [], ◌∷◌, get_or, refl, ap}
-use Rattle.functions.proofs.KnownFigures.{figures_hold as cipher_figures_hold}
+use Rattle.std.proofs.Common.{◌≡◌, ℕ, List, [], map, get_or, refl, ap}
+use Rattle.sss.specs.Tables.{skipjack, qbox, products}
+use Rattle.sss.specs.Cipher.{plus, rotate, complement, keyed, key_byte, key_word, key_entry, key_table, product, step, keystream, check_step, masked, mactext}
 use Rattle.link.specs.Issuing.{nonce_bytes}
 use Rattle.link.specs.Receiving.{row_after, with_row}
-use Rattle.link.specs.declared.reception.Release.{Release}
-use Rattle.link.specs.declared.reception.Release.TheVariants.{HandOut, Withhold}
-use Rattle.figures.specs.Figures.{FiguresHold, released}
+use Rattle.figures.specs.Figures.{FiguresHold, figures}
 
 -- Each figure is as published.
 pub figures_hold : FiguresHold
-unfolding row_after with_row nonce_bytes
-figures_hold = record { cipher = cipher_figures_hold; seventeen_sealed = refl; open_after_ten = refl; third_of_run_one = refl }
+unfolding skipjack qbox products plus rotate complement keyed key_byte key_word key_entry key_table product step keystream check_step masked mactext row_after with_row nonce_bytes
+figures_hold = refl
 
--- What becomes of the reading of the word after so many sealed ones, from the sixteenth to the eighteenth.
-pub release : (k : ℕ) →
-    get_or (released 15 0xFFFF ∷ released 16 0xFFFF ∷ released 17 0xFFFF ∷ []) k HandOut ≡
-    get_or (Withhold 16 ∷ Withhold 17 ∷ HandOut ∷ []) k HandOut
-release k = ap (λ (rs : List Release). get_or rs k HandOut) figures_hold.seventeen_sealed
+-- The figure n. Those of the link are the figures 13 to 17.
+pub figure : (n : ℕ) → get_or (map (λ x. x.computed) figures) n [] ≡ get_or (map (λ x. x.published) figures) n []
+figure n = ap (λ (xs : List (List ℕ)). get_or xs n []) figures_hold

@@ -74,7 +74,7 @@ module _ (f A : ℕ → ℕ) where
       )
 
 -- A finish leaves a lost receiver with row 0, wherever it stood.
-finish_lost : (s : Reception) → (decided s event.Finish).0 ≡ Lost 0
+pub finish_lost : (s : Reception) → (decided s event.Finish).0 ≡ Lost 0
 finish_lost Whole = refl
 finish_lost Caught = refl
 finish_lost (Lost n) = refl

@@ -7,7 +7,7 @@ use Rattle.sss.specs.Cipher.{State, OneToOne, begun, tag, taken, wire_word, draw
 use Rattle.link.specs.Receiving.{decided, verdict_of}
 use Rattle.link.specs.Ends.{registers_of, Sealing, ready, in_message, Receiving, Ends, sealer_made, receiver_made, made, nonce_taken}
 use Rattle.link.specs.Log.{Sent, Message, messages, Mark, Heard, Stretch, stretches, Since, sent_since, heard_since, wire_of, heard_wire, start_of, sealer_registers, receiver_registers}
-use Rattle.link.specs.Law.{Law, Published, Unbroken}
+use Rattle.link.specs.Law.{Law, Published, Unbroken, Withholds}
 use Rattle.link.specs.declared.reception.Event.TheVariants as event
 use Rattle.link.specs.declared.reception.Verdict.{Verdict}
 use Rattle.link.specs.declared.call.SealerCall.{SealerCall}
@@ -32,7 +32,6 @@ use Rattle.link.proofs.Runs.{good, earlier_run}
 use Rattle.link.proofs.Readings.{sealed_wire_words, follows_wire_words, placed_true, assigned_no_false, comes_back}
 use Rattle.link.proofs.InStep.{in_step}
 use Rattle.link.proofs.Alteration.{one_altered_check, one_altered_tag}
-use Rattle.link.proofs.Withheld.{all_withholds}
 use Rattle.link.proofs.Judging.{judged}
 
 -- A tag in the log comes from a finish while a message is open: it is drawn from the registers as they were.
@@ -190,9 +189,10 @@ module _ (f A : ℕ → ℕ) (onef : OneToOne f) (oneA : OneToOne A) where
         receiver_is = d.registers ∙ p.5 ∙ ap (λ (g : State). all_received f A g (map heard_wire u.stretch.words)) starts.0;
       }
 
-  pub law : {s : Ends} {log : List Entry} → Run f A s log → Law f A log (registers_of s.sealer) s.receiver.registers
+  -- The law of a loss: which words are withheld holds of every log, and all else of the log of a run.
+  pub law : {s : Ends} {log : List Entry} → Every Withholds (stretches log) → Run f A s log → Law f A log (registers_of s.sealer) s.receiver.registers
   unfolding sealed_message message_tag sealer_registers
-  law {s} {log} run =
+  law {s} {log} withheld run =
       let g = good f A onef oneA run in
       let past : Every (Past f A) (stretches log) = all_past f A s.receiver (stretches log) g.receiver.followed in
       let sealed : Every (SealedMessage f A) (messages log) = g.sealer.sealed in
@@ -208,7 +208,7 @@ module _ (f A : ℕ → ℕ) (onef : OneToOne f) (oneA : OneToOne A) where
             g.sealer.reached g.receiver.reached;
         true_readings = λ st h p. placed_true f A onef oneA log st (all-has (Past f A) (stretches log) st past h) sealed p;
         no_false_reading = assigned_no_false f A onef oneA log (stretches log) past sealed;
-        withheld = all_withholds f A (stretches log) past;
+        withheld = withheld;
         altered_check = λ u a e.
             let o = unbroken run u in
             one_altered_check f A onef oneA (begun f A u.message.nonce) o.sized (map wire_of u.message.words)

@@ -1,17 +1,26 @@
 -- Which words of a stretch are withheld.
-use Rattle.std.proofs.Common.{◌≡◌, ℕ, ◌+◌, ◌<◌, ◌≤◌, eqb, ◌≢◌, ◌⊎◌, List, [], ◌∷◌, ◌++◌, length, sym, refl, ap, ◌∙◌, subst, inl, inr, append_assoc, append-nil, arith, length-append}
+use Rattle.std.proofs.Common.{◌≡◌, ℕ, ◌+◌, ◌<◌, ◌≤◌, eqb, ◌≢◌, ◌⊎◌, List, [], ◌∷◌, ◌++◌, length, vec_items, sym, refl, ap, ◌∙◌, subst, inl, inr, append_assoc, append-nil, arith, length-append}
 use Rattle.std.specs.List.{AllByRecursion as Every}
 use Rattle.std.proofs.lemmas.List.{length_push, same_from_push}
-use Rattle.std.proofs.ByRecursion.{All-push, All-weaker}
+use Rattle.std.proofs.ByRecursion.{All-push}
 use Rattle.std.proofs.lemmas.Bool.{cond_both, eqb-true, eqb-false}
-use Rattle.sss.specs.Cipher.{State}
-use Rattle.link.specs.Receiving.{row_after, with_row}
-use Rattle.link.specs.Log.{Mark, new, begin, break, finish, Heard, Stretch}
+use Rattle.link.specs.Receiving.{Released, decided, row_after, with_row}
+use Rattle.link.specs.Ends.{EntryLeads, Leads}
+use Rattle.link.specs.Log.{Mark, new, begin, break, finish, Heard, Stretch, marked, stretch_noted, stretches}
 use Rattle.link.specs.Law.{SealedHeard, RowOf17, RowIs, IsWithheld, HandedOut, Withholds}
 use Rattle.link.specs.declared.reception.Reception.{Reception}
 use Rattle.link.specs.declared.reception.Reception.TheVariants.{Whole, Caught, Lost}
-use Rattle.link.proofs.Received.{received}
-use Rattle.link.proofs.Invariants.{moved, start, Follows, Past}
+use Rattle.link.specs.declared.reception.Event.TheVariants as event
+use Rattle.link.specs.declared.reception.Release.TheVariants.{HandOut, Withhold}
+use Rattle.link.specs.declared.reception.Answer.{Answer}
+use Rattle.link.specs.declared.reception.Answer.TheVariants.{Reading, Withheld}
+use Rattle.link.specs.declared.call.Entry.{Entry}
+use Rattle.link.specs.declared.call.Entry.TheVariants.{OfSealer, OfReceiver}
+use Rattle.link.specs.declared.call.ReceiverEntry.{ReceiverEntry}
+use Rattle.link.specs.declared.call.ReceiverEntry.TheVariants.{Begun, Refused, Received, BrokenOff, Finished}
+use Rattle.link.proofs.Invariants.{moved}
+use Rattle.link.proofs.Hearing.{finish_lost}
+use Rattle.link.proofs.Runs.{cut_push, stretches_push}
 
 -- Some words are none, or they have a last one.
 ends : (c : List Heard) → (c ≡ []) ⊎ ((d : List Heard) × (y : Heard) × (c ≡ d ++ y ∷ []))
@@ -67,7 +76,7 @@ none_yet front w n none l r (a, b, c, e, s, k) = elim (ends c) [
 
 -- What a receiver's state says of the words since a mark that is no begin: it is caught after seventeen sealed words in a row, and until then
 -- it is lost and counts them.
-abbrev Counted : List Heard → Reception → Type 0
+abbrev pub Counted : List Heard → Reception → Type 0
 Counted seen Whole = ⊥
 Counted seen Caught = RowOf17 seen
 Counted seen (Lost n) = (n ≤ 16) × RowIs n seen × ¬ RowOf17 seen
@@ -96,47 +105,107 @@ counted_more seen w (Lost n) (l, r, none) =
 abbrev Decided : List Heard → Heard → Type 0
 Decided front w = (IsWithheld front w × ¬ RowOf17 front) ⊎ (HandedOut w × RowOf17 front)
 
-module _ (f A : ℕ → ℕ) where
-  -- A whole receiver hands out every word.
-  whole_hands : (g : State) (ws : List Heard) → Follows f A Whole g ws → Every HandedOut ws
-  whole_hands g [] h = tt
-  whole_hands g (w ∷ ws) h = ((_, h.0), whole_hands (received f A g w.mask w.wire) ws h.2)
+-- A word that is withheld is answered by its row alone, and one that is handed out by a reading.
+pub answers_row : (n : ℕ) (answer : Answer) → Released (Withhold n) answer → answer ≡ Withheld n
+answers_row n (Reading p) said = absurd said
+answers_row n (Withheld m) said = ap Withheld said
 
-  -- A word is withheld or handed out by the state that the words before it led to.
-  decides : (seen : List Heard) (s : Reception) (g : State) (front : List Heard) (w : Heard) (back : List Heard) → Counted seen s →
-      Follows f A s g (front ++ w ∷ back) → Decided (seen ++ front) w
-  decides seen s g (y ∷ front) w back c h =
-      subst (λ (z : List Heard). Decided z w) (append_assoc seen (y ∷ []) front)
-      (decides (seen ++ y ∷ []) (moved s y.mask) (received f A g y.mask y.wire) front w back (counted_more seen y s c) h.2)
-  decides seen Whole g [] w back c h = absurd c
-  decides seen Caught g [] w back c h = rw append-nil (inr ((_, h.0), c))
-  decides seen (Lost n) g [] w back c h = rw append-nil (inl ((row_after n w.mask, h.0, row_more seen w n c.1), c.2))
+pub answers_reading : (answer : Answer) → Released HandOut answer → (p : ℕ) × (answer ≡ Reading p)
+answers_reading (Reading p) said = (p, refl)
+answers_reading (Withheld n) said = absurd said
 
-  -- After any other mark than a begin the receiver is lost, with no row.
-  start_lost : (m : Mark) → ((nonce : List ℕ) → m ≢ begin nonce) → start m ≡ Lost 0
-  start_lost new h = refl
-  start_lost (begin nonce) h = absurd (h nonce refl)
-  start_lost break h = refl
-  start_lost finish h = refl
+-- What became of a word by where the receiver stood.
+abbrev Told : Reception → Heard → Type 0
+Told s w = Released (decided s (event.Word w.mask)).1 w.answer
 
-  -- A lost receiver with no row has counted no words.
-  none_seen : Counted [] (Lost 0)
-  none_seen = (
-    omega arith,
-    record { before = []; those = []; parts = refl; long = refl; sealed = tt; no_more = λ c y e m. omega (arith, ap length e, length_push c y) },
-    λ (a, b, c, e, s, k). omega (arith, ap length e, length-append a (b ++ c), length-append b c),
-  )
+-- A word is withheld or handed out as the words before it ask.
+decides : (seen : List Heard) (s : Reception) (w : Heard) → Counted seen s → Told s w → Decided seen w
+decides seen Whole w c said = absurd c
+decides seen Caught w c said = inr (answers_reading w.answer said, c)
+decides seen (Lost n) w c said = inl ((row_after n w.mask, answers_row (row_after n w.mask) w.answer said, row_more seen w n c.1), c.2)
 
-  -- The words of a stretch that the receiver's steps explain are withheld as the law says, and so in every such stretch.
-  pub withholds : (st : Stretch) → Past f A st → Withholds st
-  withholds st (g, z, t, h) = record {
-    after_begin = λ nonce e. whole_hands g st.words (subst (λ (m : Mark). Follows f A (start m) g st.words) e h);
-    after_other =
-        λ ne front w back e.
-        decides [] (Lost 0) g front w back none_seen
-        (subst (λ (s : Reception). Follows f A s g (front ++ w ∷ back)) (start_lost st.mark ne)
-        (subst (Follows f A (start st.mark) g) e h));
+-- A lost receiver with no row has counted no words.
+none_seen : Counted [] (Lost 0)
+none_seen = (
+  omega arith,
+  record { before = []; those = []; parts = refl; long = refl; sealed = tt; no_more = λ c y e m. omega (arith, ap length e, length_push c y) },
+  λ (a, b, c, e, s, k). omega (arith, ap length e, length-append a (b ++ c), length-append b c),
+)
+
+-- Where a receiver stands after some words of a stretch: whole if it came after a begin, and else where they were counted to.
+pub record Stands (m : Mark) (ws : List Heard) (s : Reception) : Type 0 where
+  pub after_begin : (nonce : List ℕ) → m ≡ begin nonce → s ≡ Whole
+  pub after_other : ((nonce : List ℕ) → m ≢ begin nonce) → Counted ws s
+
+-- The stretches of a log up to now, and where the receiver stands.
+abbrev pub Standing : List Stretch → Reception → Type 0
+Standing [] s = ⊥
+Standing (st ∷ ss) s = Stands st.mark st.words s × Withholds st × Every Withholds ss
+
+-- In all of them words are withheld as the law says.
+pub all_withheld : (ss : List Stretch) (s : Reception) → Standing ss s → Every Withholds ss
+all_withheld [] s h = absurd h
+all_withheld (st ∷ ss) s h = (h.1, h.2)
+
+-- After a begin the receiver is whole, and after any other mark it is lost with row 0.
+begin_stands : (nonce : List ℕ) (s : Reception) → s ≡ Whole → Stands (begin nonce) [] s
+begin_stands nonce s whole = record { after_begin = λ n e. whole; after_other = λ none. absurd (none nonce refl) }
+
+other_stands : (m : Mark) (s : Reception) → s ≡ Lost 0 → ((nonce : List ℕ) → m ≢ begin nonce) → Stands m [] s
+other_stands m s lost none =
+    record { after_begin = λ n e. absurd (none n e); after_other = λ ne. subst (Counted []) (sym lost) none_seen }
+
+-- A new mark, with no words yet.
+none_withheld : (m : Mark) → Withholds (record { mark = m; words = [] })
+none_withheld m = record {
+  after_begin = λ nonce e. tt;
+  after_other = λ ne front w back e. absurd (omega (arith, ap length e, length-append front (w ∷ back)));
+}
+
+mark_stands : (m : Mark) (ss : List Stretch) (s s' : Reception) → Stands m [] s' → Standing ss s → Standing (marked m ss) s'
+mark_stands m ss s s' at h = (at, none_withheld m, all_withheld ss s h)
+
+-- One more word of the present stretch.
+module _ (m : Mark) (ws : List Heard) (s : Reception) (w : Heard) (at : Stands m ws s) (said : Told s w) where
+  word_stands : (s' : Reception) → s' ≡ moved s w.mask → Stands m (ws ++ w ∷ []) s'
+  word_stands s' to = record {
+    after_begin = λ nonce e. to ∙ ap (λ (x : Reception). moved x w.mask) (at.after_begin nonce e);
+    after_other = λ none. subst (Counted (ws ++ w ∷ [])) (sym to) (counted_more ws w s (at.after_other none));
   }
 
-  pub all_withholds : (ss : List Stretch) → Every (Past f A) ss → Every Withholds ss
-  all_withholds ss h = All-weaker (Past f A) Withholds withholds ss h
+  word_withheld : Withholds (record { mark = m; words = ws }) → Withholds (record { mark = m; words = ws ++ w ∷ [] })
+  word_withheld h = record {
+    after_begin = λ nonce e.
+        All-push HandedOut ws w (h.after_begin nonce e)
+        (answers_reading w.answer (subst (λ (x : Reception). Told x w) (at.after_begin nonce e) said));
+    after_other = λ none front x back e. elim (cut_push ws front back w x e) [
+      | inl last ↦
+          subst (λ (y : Heard). Decided front y) last.1
+          (subst (λ (z : List Heard). Decided z w) last.0 (decides ws s w (at.after_other none) said))
+      | inr inner ↦ h.after_other none front x inner.0 inner.1
+    ];
+  }
+
+-- An entry of the receiver.
+heard_stands : (ss : List Stretch) (s s' : Reception) (e : ReceiverEntry) → Leads s e s' → Standing ss s → Standing (stretch_noted e ss) s'
+heard_stands ss s s' (Begun nonce) to h = mark_stands (begin (vec_items nonce)) ss s s' (begin_stands (vec_items nonce) s' to) h
+heard_stands ss s s' (Refused nonce fault) to h = subst (Standing ss) (sym to) h
+heard_stands [] s s' (Received mask wire answer) to h = absurd h
+heard_stands (st ∷ ss) s s' (Received mask wire answer) to h =
+    let w : Heard = record { mask = mask; wire = wire; answer = answer } in
+    (word_stands st.mark st.words s w h.0 to.1 s' to.0, word_withheld st.mark st.words s w h.0 to.1 h.1, h.2)
+heard_stands ss s s' BrokenOff to h =
+    mark_stands break ss s s' (other_stands break s' to (λ n e. let z : ◌≡◌ {A = ℕ} 0 1 = cc in omega arith)) h
+heard_stands ss s s' (Finished tag verdict) to h =
+    mark_stands finish ss s s'
+    (other_stands finish s' (to.0 ∙ finish_lost s) (λ n e. let z : ◌≡◌ {A = ℕ} 0 1 = cc in omega arith)) h
+
+-- A log of no entries, and one entry more, whatever the keyed functions answer.
+pub new_stands : Standing (stretches []) (Lost 0)
+unfolding stretches
+new_stands = (other_stands new (Lost 0) refl (λ n e. let z : ◌≡◌ {A = ℕ} 0 1 = cc in omega arith), none_withheld new, tt)
+
+pub entry_stands : (log : List Entry) (s s' : Reception) (e : Entry) → EntryLeads s e s' → Standing (stretches log) s →
+    Standing (stretches (log ++ e ∷ [])) s'
+entry_stands log s s' (OfSealer e) to h = rw (stretches_push log (OfSealer e)) (subst (Standing (stretches log)) (sym to) h)
+entry_stands log s s' (OfReceiver e) to h = rw (stretches_push log (OfReceiver e)) (heard_stands (stretches log) s s' e to h)

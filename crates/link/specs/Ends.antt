@@ -1,10 +1,10 @@
 -- The two ends of a link by what their calls leave: where each stands, and its registers.
-use Rattle.std.specs.Prelude.{ℕ, ◌+◌, ◌%◌, ◌<◌, Bool, cond, ◌&&◌, List, [], ◌∷◌, ◌++◌, length, vec_items, fold, ◌==◌, nat_le, nat_lt}
+use Rattle.std.specs.Prelude.{◌≡◌, ℕ, ◌+◌, ◌%◌, ◌<◌, Bool, cond, ◌&&◌, List, [], ◌∷◌, ◌++◌, length, vec_items, fold, ◌==◌, nat_le, nat_lt}
 use Rattle.std.specs.List.{AllByRecursion as Every}
 use Rattle.sss.specs.Cipher.{State, Word, begun, plain_word, tag, taken, wire_word, zeroed}
 use Rattle.sss.specs.declared.Fault.TheVariants.{Nonce as UnfitNonce, Full}
 use Rattle.link.specs.Issuing.{nonce_bytes}
-use Rattle.link.specs.Receiving.{decided, answer_of, verdict_of}
+use Rattle.link.specs.Receiving.{decided, answer_of, verdict_of, Released, Given}
 use Rattle.link.specs.declared.engine.Engine.{Engine}
 use Rattle.link.specs.declared.issuer.Nonce.{Nonce}
 use Rattle.link.specs.declared.call.SealerCall.{SealerCall}
@@ -87,6 +87,21 @@ receiver_made f A s Break =
 receiver_made f A s (End t) =
     let d = decided s.reception event.Finish in
     (record { reception = d.0; registers = zeroed }, receiver_entry.Finished t (verdict_of d.1 t (tag f s.registers)))
+
+-- What an entry of the receiver says whatever the keyed function answers: where the receiver then stands, whether a word was handed out, the
+-- row of one that was not, and whether a verdict is broken.
+abbrev pub Leads : Reception → ReceiverEntry → Reception → Type 0
+Leads s (receiver_entry.Begun nonce) s' = s' ≡ (decided s event.Begin).0
+Leads s (receiver_entry.Refused nonce fault) s' = s' ≡ s
+Leads s (receiver_entry.Received mask wire answer) s' =
+    (s' ≡ (decided s (event.Word mask)).0) × Released (decided s (event.Word mask)).1 answer
+Leads s receiver_entry.BrokenOff s' = s' ≡ (decided s event.Break).0
+Leads s (receiver_entry.Finished tag verdict) s' = (s' ≡ (decided s event.Finish).0) × Given (decided s event.Finish).1 verdict
+
+-- An entry of the sealer leaves the receiver where it stands.
+abbrev pub EntryLeads : Reception → Entry → Reception → Type 0
+EntryLeads s (OfSealer e) s' = s' ≡ s
+EntryLeads s (OfReceiver e) s' = Leads s e s'
 
 -- Both ends.
 pub record Ends : Type 0 where

@@ -1,12 +1,14 @@
 -- A history of calls on both ends, and what is promised of it. F and L say what the sealer's keyed function and coefficient mean, G and M
 -- what the receiver's mean.
-use Rattle.std.specs.Prelude.{◌≡◌, ◌+◌, ◌≤◌, List, vec_items, vec_len, vec_capacity, Vec}
+use Rattle.std.specs.Prelude.{◌≡◌, ◌+◌, ◌≤◌, List, [], ◌∷◌, ◌++◌, vec_items, vec_len, vec_capacity, Vec}
+use Rattle.std.specs.List.{AllByRecursion as Every}
 use Rattle.std.specs.declared.alloc.Global.{Global}
 use Rattle.sss.specs.Asked.{Keeps}
 use Rattle.sss.specs.declared.keyed.KeyedFunction.{Ghosts as Keyed}
 use Rattle.sss.specs.declared.coefficient.Coefficient.{Ghosts as Linear}
-use Rattle.link.specs.Ends.{Ends, history, one_call, receiving, registers_of, sealer_engine, sealing}
-use Rattle.link.specs.Law.{Law}
+use Rattle.link.specs.Ends.{Ends, EntryLeads, history, one_call, receiving, registers_of, sealer_engine, sealing}
+use Rattle.link.specs.Log.{stretches}
+use Rattle.link.specs.Law.{Law, Withholds}
 use Rattle.link.specs.Meaning.{function_of}
 use Rattle.link.specs.declared.call.Call.{Call}
 use Rattle.link.specs.declared.call.Entry.{Entry}
@@ -21,6 +23,16 @@ module _ {SK SC RK RC : Type 0} where
   pub record OneLonger (log : Vec Entry Global) (h : History SK SC RK RC) : Type 0 where
     pub length : vec_len h.log ≡ vec_len log + 1
     pub room : vec_capacity log ≤ vec_capacity h.log
+
+  -- One entry more, whatever the keyed functions answer.
+  abbrev pub OneEntry : History SK SC RK RC → History SK SC RK RC → Type 0
+  OneEntry h h' =
+      (e : Entry) × (vec_items h'.log ≡ vec_items h.log ++ e ∷ []) × EntryLeads h.receiver.footing.reception e h'.receiver.footing.reception
+
+  -- THE WITHHELD WORDS, with no assumption: whatever the keyed functions are, and whatever was sent and received, exactly those words of each
+  -- stretch are withheld that must be, each with its row.
+  abbrev pub WithheldExactly : History SK SC RK RC → Type 0
+  WithheldExactly h = Every Withholds (stretches (vec_items h.log))
 
   module _ (F : Keyed SK) (L : Linear SC) (G : Keyed RK) (M : Linear RC) where
     -- The functions of two histories mean the same, and their coefficients are the same.

@@ -1,6 +1,6 @@
 //! Either end of a link by its calls: whatever the state and the call, one answer for the log.
 ghost use Rattle.std.specs.Prelude.{◌≡◌};
-ghost use Rattle.link.specs.Ends.{ReceiverCallFits, SealerCallFits, receiver_made, receiving, sealer_engine, sealer_made, sealing};
+ghost use Rattle.link.specs.Ends.{Leads, ReceiverCallFits, SealerCallFits, in_message, ready, receiver_made, receiving, sealer_engine, sealer_made, sealing};
 ghost use Rattle.link.specs.Engines.{Worked};
 
 use crate::call::{ReceiverCall, ReceiverEntry, SealerCall, SealerEntry, Unmade};
@@ -15,55 +15,61 @@ pub enum Sealer<K, C> {
     Open(OpenMessage<K, C>),
 }
 
+impl<K: KeyedFunction, C: Coefficient> ReadySealer<K, C> {
+    /// Makes a call. Any but a begin is out of turn, and not made.
+    fn take(self, call: SealerCall) -> (Sealer<K, C>, SealerEntry)
+        ensures made { Worked K.KeyedFunction C.Coefficient self.engine (sealer_engine result.0) (λ f A. (sealing result.0, result.1) ≡ sealer_made f A (ready self.engine.registers) call) }
+        ensures fits { SealerCallFits call }
+    {
+        let unmade = match call {
+            SealerCall::Begin(nonce) => {
+                let bytes = nonce.bytes();
+                return (Sealer::Open(self.begin(nonce)), SealerEntry::Begun(bytes));
+            }
+            SealerCall::Word { mask, plain } => Unmade::Word { mask, plain },
+            SealerCall::Finish => Unmade::Finish,
+            SealerCall::Abandon => Unmade::Abandon,
+        };
+        (Sealer::Ready(self), SealerEntry::OutOfTurn(unmade))
+    }
+}
+
+impl<K: KeyedFunction, C: Coefficient> OpenMessage<K, C> {
+    /// Makes a call. A begin is out of turn, and not made.
+    fn take(mut self, call: SealerCall) -> (Sealer<K, C>, SealerEntry)
+        ensures made { Worked K.KeyedFunction C.Coefficient self.engine (sealer_engine result.0) (λ f A. (sealing result.0, result.1) ≡ sealer_made f A (in_message self.words self.engine.registers) call) }
+        ensures fits { SealerCallFits call }
+    {
+        match call {
+            SealerCall::Begin(nonce) => {
+                let unmade = Unmade::Begin(nonce.bytes());
+                (Sealer::Open(self), SealerEntry::OutOfTurn(unmade))
+            }
+            SealerCall::Word { mask, plain } => {
+                let entry = match self.word(mask, plain) {
+                    Ok(wire) => SealerEntry::Sealed { mask, plain, wire },
+                    Err(fault) => SealerEntry::Refused { mask, plain, fault },
+                };
+                (Sealer::Open(self), entry)
+            }
+            SealerCall::Finish => {
+                let (ready, tag) = self.finish();
+                (Sealer::Ready(ready), SealerEntry::Finished(tag))
+            }
+            SealerCall::Abandon => (Sealer::Ready(self.abandon()), SealerEntry::Abandoned),
+        }
+    }
+}
+
 impl<K: KeyedFunction, C: Coefficient> Sealer<K, C> {
     /// Makes a call. A begin while a message is open, and any other call while none is, is out of turn and not made.
     pub fn take(self, call: SealerCall) -> (Self, SealerEntry)
         ensures made { Worked K.KeyedFunction C.Coefficient (sealer_engine self) (sealer_engine result.0) (λ f A. (sealing result.0, result.1) ≡ sealer_made f A (sealing self) call) }
         ensures fits { SealerCallFits call }
     {
-        match (self, call) {
-            (Sealer::Ready(ready), SealerCall::Begin(nonce)) => {
-                let bytes = nonce.bytes();
-                (Sealer::Open(ready.begin(nonce)), SealerEntry::Begun(bytes))
-            }
-            (Sealer::Ready(ready), SealerCall::Word { mask, plain }) => (
-                Sealer::Ready(ready),
-                SealerEntry::OutOfTurn(Unmade::Word { mask, plain }),
-            ),
-            (Sealer::Ready(ready), SealerCall::Finish) => (
-                Sealer::Ready(ready),
-                SealerEntry::OutOfTurn(Unmade::Finish),
-            ),
-            (Sealer::Ready(ready), SealerCall::Abandon) => (
-                Sealer::Ready(ready),
-                SealerEntry::OutOfTurn(Unmade::Abandon),
-            ),
-            (Sealer::Open(message), SealerCall::Begin(nonce)) => {
-                let bytes = nonce.bytes();
-                (
-                    Sealer::Open(message),
-                    SealerEntry::OutOfTurn(Unmade::Begin(bytes)),
-                )
-            }
-            (Sealer::Open(mut message), SealerCall::Word { mask, plain }) => {
-                match message.word(mask, plain) {
-                    Ok(wire) => (
-                        Sealer::Open(message),
-                        SealerEntry::Sealed { mask, plain, wire },
-                    ),
-                    Err(fault) => (
-                        Sealer::Open(message),
-                        SealerEntry::Refused { mask, plain, fault },
-                    ),
-                }
-            }
-            (Sealer::Open(message), SealerCall::Finish) => {
-                let (ready, tag) = message.finish();
-                (Sealer::Ready(ready), SealerEntry::Finished(tag))
-            }
-            (Sealer::Open(message), SealerCall::Abandon) => {
-                (Sealer::Ready(message.abandon()), SealerEntry::Abandoned)
-            }
+        match self {
+            Sealer::Ready(ready) => ready.take(call),
+            Sealer::Open(message) => message.take(call),
         }
     }
 }
@@ -72,6 +78,7 @@ impl<K: KeyedFunction, C: Coefficient> Receiver<K, C> {
     /// Makes a call.
     pub fn take(&mut self, call: ReceiverCall) -> ReceiverEntry
         ensures made { Worked K.KeyedFunction C.Coefficient self.old.engine self.new.engine (λ f A. (receiving self.new, result) ≡ receiver_made f A (receiving self.old) call) }
+        ensures leads { Leads self.old.footing.reception result self.new.footing.reception }
         ensures fits { ReceiverCallFits call }
     {
         match call {

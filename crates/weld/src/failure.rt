@@ -6,6 +6,9 @@ use thiserror::Error;
 /// Why there is no report.
 #[derive(Clone, Copy, Debug, Error)]
 pub enum Failure {
+    /// This build does not work out the known figures.
+    #[error("a known figure of the cipher or the link is not worked out as it is published")]
+    Figures,
     /// There was no memory.
     #[error("no memory")]
     NoMemory(#[from(alloc)] AllocError),

@@ -21,6 +21,7 @@ pub(crate) fn lines(heap: Global, events: &[Event]) -> Result<Vec<Line>, Failure
 
 /// Prints what the report is of, and how to read it.
 pub(crate) fn opening(rt: &HostRuntime) -> io::Result<()> {
+    println!(rt; "known figures of cipher and link: all as published")?;
     println!(rt;
         "run {RUN}: wall thicknesses in hundredths of a millimetre, in hex, sealed at one end of the link and received at the other"
     )?;

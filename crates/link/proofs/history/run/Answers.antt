@@ -8,9 +8,11 @@ use Rattle.sss.proofs.Asked.{keeps_on}
 use Rattle.sss.proofs.OneToOne.{keyed_one_to_one}
 use Rattle.link.specs.Ends.{Ends, CallFits, history, new_ends, one_call, ready, receiving, sealer_engine}
 use Rattle.link.specs.Histories.{after}
+use Rattle.link.specs.Log.{stretches}
 use Rattle.link.specs.declared.call.Call.{Call}
 use Rattle.link.specs.declared.call.Entry.{Entry}
 use Rattle.link.proofs.Progress.{ToCome, enough_more, refused_by, to_come_by, too_small, to_come_more, to_come_none, fits_more, fits_none, history_law}
+use Rattle.link.proofs.Withheld.{all_withheld, entry_stands, new_stands}
 use Rattle.link.proofs.history.run.Goals as goal
 
 -- A function that an end was made with.
@@ -18,7 +20,16 @@ from_start : {K : Type 0} (F : Keyed K) {k k' : K} (k'' : K) → k ≡ k' → Ke
 from_start {K} F k'' e kept = subst (λ (x : K). Keeps F x k'') e kept
 
 pub loop-call-init : goal.loop-call-init
-loop-call-init g c = (λ s r. refl, λ h. h, record { meaning = refl; sound = λ s. s }, record { meaning = refl; sound = λ s. s }, refl, refl, λ h. h)
+loop-call-init g c = (
+  λ s r. refl,
+  λ h. h,
+  record { meaning = refl; sound = λ s. s },
+  record { meaning = refl; sound = λ s. s },
+  refl,
+  refl,
+  λ h. h,
+  rw (c.clear.ensures.items, c.new-2.ensures.reception) new_stands,
+)
 
 pub loop-call-preserved : goal.loop-call-preserved
 loop-call-preserved g c =
@@ -55,6 +66,9 @@ loop-call-preserved g c =
       said.meaning.sealer_same ∙ inv.4,
       said.meaning.receiver_same ∙ inv.5,
       enough_more c.clear.new.self c.loop-call.history.log next.log all left rest x inv.6 first said.room.length said.room.room,
+      rw said.entry.1
+          (entry_stands (vec_items c.loop-call.history.log) c.loop-call.history.receiver.footing.reception next.receiver.footing.reception
+          said.entry.0 said.entry.2 inv.7),
     )
 
 pub returns-in_err-history : goal.returns-in_err-history
@@ -66,6 +80,7 @@ returns-in_err-history g c =
     record {
       value = search rules;
       law = search rules;
+      withheld = search rules;
       meaning = search rules;
       room =
           refused_by c.from_residual.result
@@ -96,6 +111,7 @@ returns g c =
       record { sealer = ready (sealer.registers i); receiver = record { reception = receiver.reception i; registers = receiver.registers i } },
       c.clear.ensures.items i,
     ) in
+    let withheld = all_withheld (stretches (vec_items c.loop-call.history.log)) c.loop-call.history.receiver.footing.reception inv.7 in
     let value : S.sound c.args.sealer.0 → R.sound c.args.receiver.0 → after c.loop-call.history ≡ history f A f' A' calls = λ s r.
     let so : ToCome f A f' A' start all (after c.loop-call.history) rest =
     to_come_by (keyed (S.table c.new.result.engine.function)) (g.SC.Coefficient.image c.new.result.engine.coefficient)
@@ -110,7 +126,8 @@ returns g c =
           history_law f A f' A' (keyed_one_to_one (S.table c.args.sealer.0) (g.met.SK.KeyedFunction.lawful c.args.sealer.0 s))
           (g.met.SC.Coefficient.lawful c.args.sealer.1) (ap keyed table) image calls
           (subst (Every CallFits) c.into_iter-call-iterator.ensures.into_iter_gives.0 (inv.1 (fits_none rest none)))
-          (after c.loop-call.history) (value s r);
+          (after c.loop-call.history) (value s r) withheld;
+      withheld = withheld;
       meaning =
           record {
             sealer = from_start S (sealer_engine c.loop-call.history.sealer).function sealer.function inv.2;

@@ -1,11 +1,13 @@
-use Rattle.std.proofs.Common.{◌≡◌}
+use Rattle.std.proofs.Common.{◌≡◌, vec_items}
 use Rattle.std.specs.Vec.Iter.{into_iter_items}
 use Rattle.std.specs.List.{AllByRecursion as Every}
 use Rattle.sss.specs.Cipher.{keyed}
 use Rattle.sss.specs.Asked.{Keeps}
 use Rattle.link.specs.Ends.{CallFits, sealer_engine}
 use Rattle.link.specs.Histories.{after}
+use Rattle.link.specs.Log.{stretches}
 use Rattle.link.proofs.Progress.{Enough, ToCome}
+use Rattle.link.proofs.Withheld.{Standing}
 use Rattle.link.proofs.history.run.Given as goal
 
 abbrev pub invariant-loop-call : goal.invariant-loop-call
@@ -25,4 +27,5 @@ invariant-loop-call g l =
     Keeps R r l.history.receiver.engine.function ×
     ((sealer_engine l.history.sealer).coefficient ≡ a) ×
     (l.history.receiver.engine.coefficient ≡ b) ×
-    Enough l.initial.history.log all l.history.log rest
+    Enough l.initial.history.log all l.history.log rest ×
+    Standing (stretches (vec_items l.history.log)) l.history.receiver.footing.reception
