@@ -4,12 +4,9 @@ use Rattle.std.specs.List.{AllByRecursion as Every}
 use Rattle.sss.specs.Cipher.{State, Word, OneToOne, drawn_from}
 use Rattle.sss.specs.declared.message.MaskedWord.{MaskedWord}
 use Rattle.link.specs.Law.{OneAltered}
+use Rattle.link.proofs.Every.{every_parts}
 use Rattle.link.proofs.Received.{Sized, WireWord, received, all_received, all_received_sized, all_received-++}
 use Rattle.link.proofs.Altered.{altered, altered_drawn}
-
-all_parts : {X : Type 0} (P : X → Type 0) (xs ys : List X) → Every P (xs ++ ys) → Every P xs × Every P ys
-all_parts P [] ys h = (tt, h)
-all_parts P (x ∷ xs) ys h = let t = all_parts P xs ys h.1 in ((h.0, t.0), t.1)
 
 -- The registers just before the altered word, which both ends had, and from them the registers of both.
 record Apart (f A : ℕ → ℕ) (b : State) (sent heard : List MaskedWord) (a : OneAltered sent heard) : Type 0 where
@@ -28,8 +25,8 @@ module _ (f A : ℕ → ℕ) (onef : OneToOne f) (oneA : OneToOne A) (b : State)
   apart a =
       let was : MaskedWord = record { mask = a.mask; text = a.was } in
       let became : MaskedWord = record { mask = a.mask; text = a.became } in
-      let fs = all_parts WireWord a.front (was ∷ a.later) (subst (Every WireWord) a.sent_is ls) in
-      let fh = all_parts WireWord a.front (became ∷ a.later) (subst (Every WireWord) a.heard_is lh) in
+      let fs = every_parts WireWord a.front (was ∷ a.later) (subst (Every WireWord) a.sent_is ls) in
+      let fh = every_parts WireWord a.front (became ∷ a.later) (subst (Every WireWord) a.heard_is lh) in
       record {
         before = all_received f A b a.front;
         sized = all_received_sized f A onef oneA b a.front k fs.0;

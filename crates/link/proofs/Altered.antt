@@ -3,12 +3,12 @@ use Rattle.std.proofs.Common.{◌≡◌, ℕ, zero, suc, ◌+◌, ◌-◌, ◌<�
 use lib.Bits.{bit_and, bit_xor}
 use Rattle.std.specs.List.{AllByRecursion as Every}
 use Rattle.std.proofs.lemmas.Bool.{cases_lt}
-use Rattle.std.proofs.ByRecursion.{All-take, All-drop, All-from_get_or}
 use Rattle.std.proofs.lemmas.List.{ext_get_or, get_or_append_left, get_or-drop, get_or_push, get_or-reverse, length-drop, length-map, length-reverse, length-take-le, reverse-reverse, take-append-drop}
 use Rattle.sss.specs.Cipher.{Word, Words, State, OneToOne, plus, rot8, complement, step, check_step, keystream, ciphertext, masked, mactext}
 use Rattle.sss.specs.Cipher.{taken, plain_word, fed, all_fed, drawn_from}
 use Rattle.sss.specs.declared.message.MaskedWord.{MaskedWord}
 use Rattle.sss.proofs.Words.{xor_cancel, xor_cancel_left}
+use Rattle.link.proofs.Every.{every_drop, every_place, every_take}
 use Rattle.link.proofs.Register.{plus_word, plus_cancel, plus_cancel_left, rot8_cancel, cell_step, step_is, step_size, steps, forgets, remembers, steps_same}
 use Rattle.link.proofs.Received.{Sealed, WireWord, Sized, received, all_received, words_from, step_words, ciphertext_word, plain_is_word, received_sized, all_received_sized}
 use Rattle.link.proofs.Received.{received_sealed_c, all_received_sealed_r, received_same_r, all_received-++}
@@ -214,7 +214,7 @@ module _ (f A : ℕ → ℕ) (onef : OneToOne f) (oneA : OneToOne A) where
         | inr le ↦
             let join : (w ∷ take 16 ws) ++ drop 16 ws ≡ w ∷ ws = ap {B = List MaskedWord} (λ t. w ∷ t) (take-append-drop 16 ws) in
             shows_late g h k m n wm wn w (take 16 ws) (drop 16 ws) (length-take-le 16 ws le)
-            (s.0, All-take Sealed 16 ws s.1) (l.0, All-take WireWord 16 ws l.1) (All-drop WireWord 16 ws l.1)
+            (s.0, every_take Sealed 16 ws s.1) (l.0, every_take WireWord 16 ws l.1) (every_drop WireWord 16 ws l.1)
             (ap (λ (t : List MaskedWord). (all_received f A (received f A g k m) t).c) join ∙ e ∙
             sym (ap (λ (t : List MaskedWord). (all_received f A (received f A g k n) t).c) join))
       ]
@@ -265,7 +265,7 @@ fed_back f r (p ∷ ps) (q ∷ qs) e =
 
 reverse_words : (c : List ℕ) → Words c → Every Word (reverse c)
 reverse_words c h =
-    All-from_get_or Word (reverse c) 0
+    every_place Word (reverse c) 0
     (λ i l.
     let l' : i < length c = subst (λ (n : ℕ). i < n) (length-reverse c) l in
     subst Word (sym (get_or-reverse c i 0 l')) (h (length c - 1 - i)))

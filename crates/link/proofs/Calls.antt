@@ -1,7 +1,6 @@
 -- The calls whose answer a test decides, a word of a message that may be full and a begin whose nonce may not fit; and how a call is noted.
 use Rattle.std.proofs.Common.{◌≡◌, ℕ, ◌+◌, ◌%◌, ◌<◌, ◌≤◌, true, false, eqb, leb, List, [], ◌∷◌, ◌++◌, length, get_or, ap, ◌∙◌, inl, inr}
 use Rattle.std.specs.List.{AllByRecursion as Every}
-use Rattle.std.proofs.ByRecursion.{All-from_get_or}
 use Rattle.std.proofs.lemmas.Bool.{lt-ltb, le-ltb, le-leb, leb-true, eq-eqb, eqb-true, cases_Bool, and_from, and_parts}
 use Rattle.sss.specs.Cipher.{State, NonceFits, taken, wire_word}
 use Rattle.sss.specs.declared.Fault.{Fault}
@@ -17,6 +16,7 @@ use Rattle.link.specs.declared.call.ReceiverEntry.{ReceiverEntry}
 use Rattle.link.specs.declared.call.Entry.{Entry}
 use Rattle.link.specs.declared.call.Entry.TheVariants.{OfSealer, OfReceiver}
 use Rattle.link.specs.declared.call.SealerEntry.TheVariants.{Sealed, Refused}
+use Rattle.link.proofs.Every.{every_place}
 
 module _ (f A : ℕ → ℕ) (n n' : ℕ) (g g' : State) (mask p : ℕ) where
   pub word_sealed : (wire : ℕ) → n < 65536 → n' ≡ n + 1 → wire ≡ wire_word f g mask p → g' ≡ taken f A g mask p →
@@ -43,7 +43,7 @@ nonce_taken_false bytes unfit =
 
 -- What a slice's type says of its bytes.
 pub bytes_fit : (bs : List ℕ) → ((i : ℕ) → get_or bs i 0 < 256) → Every (λ b. b < 256) bs
-bytes_fit bs h = All-from_get_or (λ b. b < 256) bs 0 (λ i l. h i)
+bytes_fit bs h = every_place (λ b. b < 256) bs 0 (λ i l. h i)
 
 -- A call on either end, noted in the log.
 module _ (f A f' A' : ℕ → ℕ) (s s' : Sealing) (r r' : Receiving) (log items : List Entry) where

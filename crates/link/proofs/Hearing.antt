@@ -2,7 +2,6 @@
 use Rattle.std.proofs.Common.{◌≡◌, ℕ, List, [], ◌∷◌, ◌++◌, map, vec_items, sym, refl, ap, ◌∙◌, subst}
 use Rattle.std.specs.List.{AllByRecursion as Every}
 use Rattle.std.proofs.lemmas.List.{map_push}
-use Rattle.std.proofs.ByRecursion.{All-push}
 use Rattle.std.proofs.lemmas.Bool.{cond_both}
 use Rattle.sss.specs.Cipher.{State, Word, OneToOne, begun, zeroed}
 use Rattle.sss.specs.declared.Fault.TheVariants.{Nonce}
@@ -16,6 +15,7 @@ use Rattle.link.specs.declared.call.ReceiverEntry.TheVariants as receiver_entry
 use Rattle.link.specs.declared.reception.Reception.{Reception}
 use Rattle.link.specs.declared.reception.Reception.TheVariants.{Whole, Caught, Lost}
 use Rattle.link.specs.declared.reception.Event.TheVariants as event
+use Rattle.link.proofs.Every.{every_push}
 use Rattle.link.proofs.Received.{Sized, WireWord, received, all_received, all_received_push, received_sized, zeroed_sized, begun_sized}
 use Rattle.link.proofs.Invariants.{moved, told, start, moves, Starts, Follows, Past, AllStretches, ReceiverGood}
 
@@ -108,7 +108,7 @@ module _ (f A : ℕ → ℕ) (onef : OneToOne f) (oneA : OneToOne A) where
         start_fits = h.start_fits;
         words_fit =
             subst (Every WireWord) (sym (map_push heard_wire since.words w))
-            (All-push WireWord (map heard_wire since.words) (heard_wire w) h.words_fit fits);
+            (every_push WireWord (map heard_wire since.words) (heard_wire w) h.words_fit fits);
         reached = reached_push f A s.registers (start_of f A since.start) since.words w h.reached;
       }
   receiver_keeps s ss since Break fits h =

@@ -1,3 +1,4 @@
+pub mod Every
 pub mod Verdicts
 pub mod Engines
 pub mod Calls

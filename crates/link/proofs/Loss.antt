@@ -1,7 +1,6 @@
 -- The law of a loss.
 use Rattle.std.proofs.Common.{◌≡◌, ℕ, ◌+◌, ltb, List, [], ◌∷◌, ◌++◌, map, Some, None, vec_items, Option, sym, refl, ap, ◌∙◌, subst, arith}
 use Rattle.std.specs.List.{AllByRecursion as Every}
-use Rattle.std.proofs.ByRecursion.{all-has, All-weaker}
 use Rattle.std.proofs.lemmas.Bool.{cond_both}
 use Rattle.sss.specs.Cipher.{State, OneToOne, begun, tag, taken, wire_word, drawn_from, sealed_message, message_tag}
 use Rattle.link.specs.Receiving.{decided, verdict_of}
@@ -24,6 +23,7 @@ use Rattle.link.specs.declared.call.ReceiverEntry.TheVariants.{Finished as Ended
 use Rattle.link.specs.declared.call.Entry.{Entry}
 use Rattle.link.specs.declared.call.Entry.TheVariants.{OfSealer, OfReceiver}
 use Rattle.sss.specs.declared.Fault.TheVariants.{Full, Nonce}
+use Rattle.link.proofs.Every.{every_one, every_so}
 use Rattle.link.proofs.Received.{Sized, WireWord, all_received, all_received_taken, zeroed_sized, begun_sized}
 use Rattle.link.proofs.Invariants.{StartFits, SealedMessage, OpenAt, Starts, Past, Present, AllStretches, Run}
 use Rattle.link.proofs.Sealing.{sealed_taken, sealed_wires}
@@ -206,7 +206,7 @@ module _ (f A : ℕ → ℕ) (onef : OneToOne f) (oneA : OneToOne A) where
             (start_sized (sent_since log).start g.sealer.start_fits) (start_sized (heard_since log).start g.receiver.start_fits)
             (sealed_wire_words f A (from (sent_since log).start) (sent_since log).words g.sealer.since_sealed) g.receiver.words_fit
             g.sealer.reached g.receiver.reached;
-        true_readings = λ st h p. placed_true f A onef oneA log st (all-has (Past f A) (stretches log) st past h) sealed p;
+        true_readings = λ st h p. placed_true f A onef oneA log st (every_one (Past f A) (stretches log) st past h) sealed p;
         no_false_reading = assigned_no_false f A onef oneA log (stretches log) past sealed;
         withheld = withheld;
         altered_check = λ u a e.
@@ -220,7 +220,7 @@ module _ (f A : ℕ → ℕ) (onef : OneToOne f) (oneA : OneToOne A) where
             (map heard_wire u.stretch.words) o.sent_fit o.heard_fit a n
             (ap (drawn_from f) (sym o.sealer_is) ∙ e ∙ ap (drawn_from f) o.receiver_is);
         published =
-            All-weaker (SealedMessage f A) (Published f A) (λ m h. sym (sealed_wires f A (begun f A m.nonce) m.words h.1)) (messages log) sealed;
+            every_so (SealedMessage f A) (λ m h. sym (sealed_wires f A (begun f A m.nonce) m.words h.1)) (messages log) sealed;
         published_tags = λ before later t e.
             let c = closing run before later t e in
             let m = c.message in (
@@ -230,8 +230,8 @@ module _ (f A : ℕ → ℕ) (onef : OneToOne f) (oneA : OneToOne A) where
               c.drawn ∙ ap (tag f) (c.registers ∙ sym (sealed_taken f A (begun f A m.nonce) m.words c.sealed.1)),
             );
         comes_back = λ st h m k mark same.
-            comes_back f A onef oneA log st (all-has (Past f A) (stretches log) st past h) m
-            (all-has (SealedMessage f A) (messages log) m sealed k) mark same;
+            comes_back f A onef oneA log st (every_one (Past f A) (stretches log) st past h) m
+            (every_one (SealedMessage f A) (messages log) m sealed k) mark same;
         verdicts = λ before later t v e.
             let d = ending run before later t v e in
             (d.stretch, d.others, d.latest_is, judged f A d.receiver d.stretch t v d.present d.given);

@@ -2,7 +2,6 @@
 use Rattle.std.proofs.Common.{◌≡◌, ℕ, suc, ◌+◌, Bool, cond, eqb, List, [], ◌∷◌, ◌++◌, map, length, get_or, drop, sym, refl, ap, ◌∙◌, subst, inl, inr, arith, length-append}
 use lib.Bits.{bit_and, bit_xor}
 use Rattle.std.specs.List.{AllByRecursion as Every}
-use Rattle.std.proofs.ByRecursion.{all-has}
 use Rattle.std.proofs.lemmas.Bool.{cases_Bool, cond_both, eq-eqb, eqb-true}
 use Rattle.sss.specs.Cipher.{State, Word, OneToOne, begun, keystream, masked, plain_word, step, wire_word}
 use Rattle.sss.specs.declared.message.MaskedWord.{MaskedWord}
@@ -15,6 +14,7 @@ use Rattle.link.specs.declared.reception.Reception.TheVariants.{Whole, Caught, L
 use Rattle.link.specs.declared.reception.Answer.{Answer}
 use Rattle.link.specs.declared.reception.Answer.TheVariants.{Reading}
 use Rattle.link.specs.declared.call.Entry.{Entry}
+use Rattle.link.proofs.Every.{every_one}
 use Rattle.link.proofs.Register.{steps, forgets, steps_push}
 use Rattle.link.proofs.Received.{Sized, WireWord, received, all_received, received_sized, all_received_sized, begun_sized}
 use Rattle.link.proofs.Received.{received_sealed_r, received_same_r}
@@ -144,7 +144,7 @@ module _ (f A : ℕ → ℕ) (onef : OneToOne f) (oneA : OneToOne A) where
       false_readings s.words p.those ≡ 0
   placed_no_false log s (g, kg, st, fo) sealed p =
       let m : Message = p.message in
-      let (bytes, t) = all-has (SealedMessage f A) (messages log) m sealed p.of_sealer in
+      let (bytes, t) = every_one (SealedMessage f A) (messages log) m sealed p.of_sealer in
       let b : State = begun f A m.nonce in
       let t' : SealedFrom f A b (p.front ++ (p.those ++ p.back)) = subst (SealedFrom f A b) p.within t in
       let h : State = all_received f A b (map wire_of p.front) in

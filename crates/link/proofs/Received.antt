@@ -2,13 +2,13 @@
 use Rattle.std.proofs.Common.{◌≡◌, ℕ, zero, suc, ◌-◌, ◌<◌, List, [], ◌∷◌, ◌++◌, map, length, get_or, drop, set, replicate, refl, ap, ◌∙◌, lt_of_le_of_lt, arith}
 use lib.Bits.{bit_and, bit_xor, and_le_r, and_comm, and_mask, and_zero_l, xor_zero_r}
 use Rattle.std.specs.List.{AllByRecursion as Every}
-use Rattle.std.proofs.ByRecursion.{All-set, All-push, All-drop}
 use Rattle.std.proofs.lemmas.List.{length_push, length-drop}
 use Rattle.sss.specs.Cipher.{Word, Words, State, OneToOne, plus, rot8, complement, words_of, step, check_step, keystream, ciphertext, masked, mactext}
 use Rattle.sss.specs.Cipher.{taken, wire_word, plain_word, zeroed, nonce_taken, nonces_taken, open_zeros, begun, all_taken, plain_words}
 use Rattle.sss.specs.declared.message.MaskedWord.{MaskedWord}
 use Rattle.sss.proofs.Words.{rotate_word, xor_undo, xor_word}
 use Rattle.sss.proofs.Returned.{word_back}
+use Rattle.link.proofs.Every.{every_drop, every_push, every_set}
 use Rattle.link.proofs.Register.{plus_word, step_size, steps}
 
 -- Each bit of a word is sealed.
@@ -66,15 +66,15 @@ module _ (f : ℕ → ℕ) (one : OneToOne f) where
   unfolding step
   step_words r c p q =
       let r₁ : List ℕ = drop 1 r ++ c ∷ [] in
-      let w₁ : Every Word r₁ = All-push Word (drop 1 r) c (All-drop Word 1 r (all_from r p)) q in
+      let w₁ : Every Word r₁ = every_push Word (drop 1 r) c (every_drop Word 1 r (all_from r p)) q in
       let x₁ : ℕ = plus (get_or r₁ 14 0) (f (rot8 c)) in
       let r₂ : List ℕ = set r₁ 14 x₁ in
-      let w₂ : Every Word r₂ = All-set Word r₁ 14 x₁ (plus_word (get_or r₁ 14 0) (f (rot8 c))) w₁ in
+      let w₂ : Every Word r₂ = every_set Word r₁ 14 x₁ w₁ (plus_word (get_or r₁ 14 0) (f (rot8 c))) in
       let x₂ : ℕ = f (get_or r₂ 12 0) in
       let r₃ : List ℕ = set r₂ 12 x₂ in
-      let w₃ : Every Word r₃ = All-set Word r₂ 12 x₂ (one.word (get_or r₂ 12 0) (words_from r₂ w₂ 12)) w₂ in
+      let w₃ : Every Word r₃ = every_set Word r₂ 12 x₂ w₂ (one.word (get_or r₂ 12 0) (words_from r₂ w₂ 12)) in
       let x₃ : ℕ = rot8 (get_or r₃ 1 0) in
-      words_from (set r₃ 1 x₃) (All-set Word r₃ 1 x₃ (rotate_word (get_or r₃ 1 0) (words_from r₃ w₃ 1)) w₃)
+      words_from (set r₃ 1 x₃) (every_set Word r₃ 1 x₃ w₃ (rotate_word (get_or r₃ 1 0) (words_from r₃ w₃ 1)))
 
   -- The keystream word is a word, and so is what enters the cipher register.
   pub keystream_word : (r : List ℕ) → Words r → Word (keystream f r)
@@ -91,7 +91,7 @@ unfolding check_step
 check_words A one c M p q =
     let x : ℕ = bit_xor (bit_xor (bit_xor M (A (get_or c 0 0))) (get_or c 4 0)) (get_or c 15 0) in
     let w : Word x = xor_word _ (get_or c 15 0) (xor_word _ (get_or c 4 0) (xor_word M (A (get_or c 0 0)) q (one.word (get_or c 0 0) (p 0))) (p 4)) (p 15) in
-    words_from (drop 1 c ++ x ∷ []) (All-push Word (drop 1 c) x (All-drop Word 1 c (all_from c p)) w)
+    words_from (drop 1 c ++ x ∷ []) (every_push Word (drop 1 c) x (every_drop Word 1 c (all_from c p)) w)
 
 check_size : (A : ℕ → ℕ) (c : List ℕ) (M : ℕ) → length c ≡ 17 → length (check_step A c M) ≡ 17
 unfolding check_step

@@ -2,7 +2,6 @@
 use Rattle.std.proofs.Common.{◌≡◌, ℕ, zero, suc, ◌+◌, ◌/◌, ◌<◌, ltb, List, [], ◌∷◌, ◌++◌, map, sym, refl, ap, ◌∙◌, subst, arith}
 use Rattle.std.specs.List.{AllByRecursion as Every}
 use Rattle.std.proofs.lemmas.List.{map_push}
-use Rattle.std.proofs.ByRecursion.{All-append}
 use Rattle.std.proofs.lemmas.Bool.{cond_both}
 use Rattle.sss.specs.Cipher.{State, Word, OneToOne, taken, wire_word, all_taken, wire_words}
 use Rattle.sss.specs.declared.Fault.TheVariants.{Full}
@@ -15,6 +14,7 @@ use Rattle.link.specs.declared.issuer.Nonce.{Nonce}
 use Rattle.link.specs.declared.call.SealerCall.TheVariants.{Begin, Word as Seal, Finish, Abandon}
 use Rattle.link.specs.declared.call.SealerEntry.{SealerEntry}
 use Rattle.link.specs.declared.call.SealerEntry.TheVariants as sealer_entry
+use Rattle.link.proofs.Every.{every_joined}
 use Rattle.link.proofs.Received.{received, all_received, received_wire, all_received_push, taken_sized, wire_is_word, zeroed_sized, begun_sized}
 use Rattle.link.proofs.Invariants.{Bytes, SealedFrom, SealedMessage, SealerGood}
 
@@ -26,7 +26,7 @@ low_bytes_below (suc n) x = (omega arith, low_bytes_below n (x / 256))
 pub nonce_below : (n : Nonce) → Bytes (nonce_bytes n)
 unfolding nonce_bytes
 nonce_below n =
-    All-append (λ b. b < 256) (low_bytes 4 n.run) (low_bytes 2 n.message) (low_bytes_below 4 n.run) (low_bytes_below 2 n.message)
+    every_joined (λ b. b < 256) (low_bytes 4 n.run) (low_bytes 2 n.message) (low_bytes_below 4 n.run) (low_bytes_below 2 n.message)
 
 module _ (f A : ℕ → ℕ) where
   -- A sealed word takes both registers where its wire word takes them.

@@ -2,7 +2,6 @@
 use Rattle.std.proofs.Common.{◌≡◌, ℕ, ◌+◌, ◌<◌, ◌≤◌, eqb, ◌≢◌, ◌⊎◌, List, [], ◌∷◌, ◌++◌, length, vec_items, sym, refl, ap, ◌∙◌, subst, inl, inr, append_assoc, append-nil, arith, length-append}
 use Rattle.std.specs.List.{AllByRecursion as Every}
 use Rattle.std.proofs.lemmas.List.{length_push, same_from_push}
-use Rattle.std.proofs.ByRecursion.{All-push}
 use Rattle.std.proofs.lemmas.Bool.{cond_both, eqb-true, eqb-false}
 use Rattle.link.specs.Receiving.{Released, decided, row_after, with_row}
 use Rattle.link.specs.Ends.{EntryLeads, Leads}
@@ -18,6 +17,7 @@ use Rattle.link.specs.declared.call.Entry.{Entry}
 use Rattle.link.specs.declared.call.Entry.TheVariants.{OfSealer, OfReceiver}
 use Rattle.link.specs.declared.call.ReceiverEntry.{ReceiverEntry}
 use Rattle.link.specs.declared.call.ReceiverEntry.TheVariants.{Begun, Refused, Received, BrokenOff, Finished}
+use Rattle.link.proofs.Every.{every_push}
 use Rattle.link.proofs.Invariants.{moved}
 use Rattle.link.proofs.Hearing.{finish_lost}
 use Rattle.link.proofs.Runs.{cut_push, stretches_push}
@@ -50,7 +50,7 @@ row_more front w n r =
       those = r.those ++ w ∷ [];
       parts = ap (λ (z : List Heard). z ++ w ∷ []) r.parts ∙ append_assoc r.before r.those (w ∷ []);
       long = length_push r.those w ∙ ap (λ (k : ℕ). k + 1) r.long;
-      sealed = All-push SealedHeard r.those w r.sealed (eqb-true w.mask 65535 e);
+      sealed = every_push SealedHeard r.those w r.sealed (eqb-true w.mask 65535 e);
       no_more = r.no_more;
     })
     (λ e. record {
@@ -176,7 +176,7 @@ module _ (m : Mark) (ws : List Heard) (s : Reception) (w : Heard) (at : Stands m
   word_withheld : Withholds (record { mark = m; words = ws }) → Withholds (record { mark = m; words = ws ++ w ∷ [] })
   word_withheld h = record {
     after_begin = λ nonce e.
-        All-push HandedOut ws w (h.after_begin nonce e)
+        every_push HandedOut ws w (h.after_begin nonce e)
         (answers_reading w.answer (subst (λ (x : Reception). Told x w) (at.after_begin nonce e) said));
     after_other = λ none front x back e. elim (cut_push ws front back w x e) [
       | inl last ↦

@@ -1,8 +1,8 @@
 -- THE LAW OF A LOSS. What holds of every run of a sealer and a receiver with one key and one coefficient, whatever calls were made on them
 -- and whatever became of the words between them. All of it is read off the log: f is the keyed function, A the coefficient.
-use Rattle.std.specs.Prelude.{◌≡◌, ℕ, ◌+◌, ◌-◌, ◌≤◌, cond, ◌≢◌, ◌⊎◌, ◌↔◌, List, [], ◌∷◌, ◌++◌, map, length, drop, ◌==◌}
+use Rattle.std.specs.Prelude.{◌≡◌, ℕ, ◌+◌, ◌-◌, ◌≤◌, cond, ◌≢◌, ◌⊎◌, ◌↔◌, List, [], ◌∷◌, ◌++◌, map, length, drop, Contains, ◌==◌}
 use Rattle.std.proofs.Common.{inl, inr}
-use Rattle.std.specs.List.{ContainsAt as Has, AllByRecursion as Every}
+use Rattle.std.specs.List.{AllByRecursion as Every}
 use Rattle.sss.specs.Cipher.{State, drawn_from, sealed_message, opened_message, message_tag}
 use Rattle.sss.specs.declared.message.MaskedWord.{MaskedWord}
 use Rattle.link.specs.Log.{Sent, Message, messages, begin, Heard, Stretch, stretches, sent_since, heard_since, plain_of, wire_of, heard_wire, sealer_registers, receiver_registers}
@@ -44,7 +44,7 @@ heard_wires log = map heard_wire (heard_since log).words
 -- message; after a begin, which had the message's nonce, they are its first words.
 pub record Placed (log : List Entry) (s : Stretch) : Type 0 where
   pub message : Message
-  pub of_sealer : Has (messages log) message
+  pub of_sealer : Contains (messages log) message
   pub front : List Sent
   pub those : List Sent
   pub back : List Sent
@@ -187,7 +187,7 @@ pub record Law (f A : ℕ → ℕ) (log : List Entry) (sealer receiver : State) 
       (sealer.r ≡ receiver.r) ↔ (wires (latest_17 (sent_wires log)) ≡ wires (latest_17 (heard_wires log)))
   -- 3. In a stretch that is placed in a message every reading is true; in a run whose stretches are all assigned the number of false readings
   -- is zero.
-  pub true_readings : (s : Stretch) → Has (stretches log) s → (p : Placed log s) → TrueReadings s.words p.those
+  pub true_readings : (s : Stretch) → Contains (stretches log) s → (p : Placed log s) → TrueReadings s.words p.those
   pub no_false_reading : (a : Every (Assigned log) (stretches log)) → false_in_all log (stretches log) a ≡ 0
   -- 4. Exactly these words are withheld, and each answer carries its row.
   pub withheld : Every Withholds (stretches log)
@@ -202,7 +202,7 @@ pub record Law (f A : ℕ → ℕ) (log : List Entry) (sealer receiver : State) 
   -- verdict is the one that the tag deserves.
   pub published : Every (Published f A) (messages log)
   pub published_tags : (before later : List Entry) (tag : List ℕ) → log ≡ before ++ OfSealer (Finished tag) ∷ later → PublishedTag f A before tag
-  pub comes_back : (s : Stretch) → Has (stretches log) s → (m : Message) → Has (messages log) m → s.mark ≡ begin m.nonce →
+  pub comes_back : (s : Stretch) → Contains (stretches log) s → (m : Message) → Contains (messages log) m → s.mark ≡ begin m.nonce →
       map heard_wire s.words ≡ map wire_of m.words → map (λ w. w.answer) s.words ≡ map (λ w. Reading w.plain) m.words
   pub verdicts : (before later : List Entry) (tag : List ℕ) (verdict : Verdict) → log ≡ before ++ OfReceiver (Ended tag verdict) ∷ later →
       JudgedLatest f A before tag verdict
