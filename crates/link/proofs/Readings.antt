@@ -1,5 +1,5 @@
 -- Where a stretch is part of a message, no reading is false; and a message that is received as it was sent is read as it was given.
-use Rattle.std.proofs.Common.{◌≡◌, ℕ, suc, ◌+◌, Bool, cond, eqb, List, [], ◌∷◌, ◌++◌, map, length, get_or, drop, sym, refl, ap, ◌∙◌, subst, inl, inr, arith, length-append}
+use Rattle.std.proofs.Common.{◌≡◌, ℕ, suc, ◌+◌, Bool, cond, eqb, List, [], ◌∷◌, ◌++◌, map, length, get_or, drop, sym, refl, ap, ◌∙◌, subst, inl, inr, Some, None, arith, length-append}
 use lib.Bits.{bit_and, bit_xor}
 use Rattle.std.specs.List.{AllByRecursion as Every}
 use Rattle.std.proofs.lemmas.Bool.{cases_Bool, cond_both, eq-eqb, eqb-true}
@@ -181,10 +181,10 @@ module _ (f A : ℕ → ℕ) (onef : OneToOne f) (oneA : OneToOne A) where
 
   one_no_false : (log : List Entry) (s : Stretch) → Past f A s → Every (SealedMessage f A) (messages log) → (a : Assigned log s) →
       false_in log s a ≡ 0
-  one_no_false log s past sealed (inl empty) = refl
-  one_no_false log s past sealed (inr p) = placed_no_false f A onef oneA log s past sealed p
+  one_no_false log s past sealed None = refl
+  one_no_false log s past sealed (Some p) = placed_no_false f A onef oneA log s past sealed p
 
-  -- Where all stretches are assigned, no reading is false.
+  -- However the stretches are placed, or left out, no reading is false.
   pub assigned_no_false : (log : List Entry) (ss : List Stretch) → Every (Past f A) ss → Every (SealedMessage f A) (messages log) →
       (a : Every (Assigned log) ss) → false_in_all log ss a ≡ 0
   assigned_no_false log [] past sealed a = refl

@@ -1,5 +1,5 @@
 -- What holds of both ends holds after any calls, and each beginning of a log is the log of a run.
-use Rattle.std.proofs.Common.{◌≡◌, ℕ, ◌⊎◌, List, [], ◌∷◌, ◌++◌, None, fold, refl, subst, inl, inr, ⊎_elim, arith}
+use Rattle.std.proofs.Common.{◌≡◌, ℕ, ◌⊎◌, List, [], ◌∷◌, ◌++◌, None, fold, refl, subst, inl, inr, ⊎_elim, append-nil, ◌∙◌, arith}
 use Rattle.std.specs.List.{AllByRecursion as Every}
 use Rattle.std.proofs.lemmas.List.Sums.{fold_push}
 use Rattle.sss.specs.Cipher.{OneToOne}
@@ -96,3 +96,8 @@ module _ (f A : ℕ → ℕ) where
   earlier_run (more {s} {log} r x fits) before later e q =
       ⊎_elim (λ l. (s, subst (Run f A s) l.0 r, (x, l.1))) (λ k. earlier_run r before k.0 e k.1)
       (cut_push log before later (made f A f A s x).1 e q)
+
+  -- What the log held at some moment is the log of a run.
+  pub beginning_run : {s : Ends} {log : List Entry} → Run f A s log → (early later : List Entry) → log ≡ early ++ later → (s' : Ends) × Run f A s' early
+  beginning_run {s} run early [] q = (s, subst (Run f A s) (q ∙ append-nil early) run)
+  beginning_run run early (e ∷ later) q = let r = earlier_run run early later e q in (r.0, r.1)

@@ -1,9 +1,9 @@
--- THE LAW OF A LOSS. What holds of every run of a sealer and a receiver with one key and one coefficient, whatever calls were made on them
--- and whatever became of the words between them. All of it is read off the log: f is the keyed function, A the coefficient.
-use Rattle.std.specs.Prelude.{◌≡◌, ℕ, ◌+◌, ◌-◌, ◌≤◌, cond, ◌≢◌, ◌⊎◌, ◌↔◌, List, [], ◌∷◌, ◌++◌, map, length, drop, Contains, ◌==◌}
-use Rattle.std.proofs.Common.{inl, inr}
+-- THE LAW OF A LOSS. What holds of every run of a sealer and a receiver with one table and one coefficient, whatever calls were made on them
+-- and whatever became of the words between them. All but the registers at its end is read off the log: f is the keyed function, A the
+-- coefficient.
+use Rattle.std.specs.Prelude.{◌≡◌, ℕ, ◌+◌, ◌-◌, ◌≤◌, cond, ◌≢◌, ◌⊎◌, ◌↔◌, List, [], ◌∷◌, ◌++◌, map, length, drop, Contains, Option, Some, None, ◌==◌}
 use Rattle.std.specs.List.{AllByRecursion as Every}
-use Rattle.sss.specs.Cipher.{State, drawn_from, sealed_message, opened_message, message_tag}
+use Rattle.sss.specs.Cipher.{State, drawn_from, plain_word, sealed_message, opened_message, message_tag}
 use Rattle.sss.specs.declared.message.MaskedWord.{MaskedWord}
 use Rattle.link.specs.Log.{Sent, Message, messages, begin, Heard, Stretch, stretches, sent_since, heard_since, plain_of, wire_of, heard_wire, sealer_registers, receiver_registers}
 use Rattle.link.specs.declared.reception.Answer.{Answer}
@@ -13,7 +13,11 @@ use Rattle.link.specs.declared.reception.Verdict.TheVariants.{Agrees, Broken}
 use Rattle.link.specs.declared.call.Entry.{Entry}
 use Rattle.link.specs.declared.call.Entry.TheVariants.{OfSealer, OfReceiver}
 use Rattle.link.specs.declared.call.SealerEntry.TheVariants.{Finished}
-use Rattle.link.specs.declared.call.ReceiverEntry.TheVariants.{Finished as Ended}
+use Rattle.link.specs.declared.call.ReceiverEntry.TheVariants.{Received, Finished as Ended}
+
+-- What the log held at some moment of the run: a beginning of it.
+abbrev pub Beginning : List Entry → List Entry → Type 0
+Beginning log early = (later : List Entry) × (log ≡ early ++ later)
 
 -- SEALED WORDS. A word is sealed if its mask is all ones.
 abbrev pub SealedWord : MaskedWord → Type 0
@@ -71,23 +75,23 @@ false_readings [] ys = 0
 false_readings (x ∷ xs) [] = 0
 false_readings (x ∷ xs) (y ∷ ys) = false_reading x.answer y.plain + false_readings xs ys
 
--- An assignment of stretches to messages: each stretch is empty, or placed.
+-- An assignment of stretches to messages: each stretch is placed, or left out.
 abbrev pub Assigned : List Entry → Stretch → Type 0
-Assigned log s = (s.words ≡ []) ⊎ Placed log s
+Assigned log s = Option (Placed log s)
 
--- The false readings of one assigned stretch.
+-- The false readings of one stretch; of one that is left out none are counted.
 abbrev pub false_in : (log : List Entry) (s : Stretch) → Assigned log s → ℕ
-false_in log s (inl empty) = 0
-false_in log s (inr p) = false_readings s.words p.those
+false_in log s None = 0
+false_in log s (Some p) = false_readings s.words p.those
 
--- The false readings of all assigned stretches together.
+-- The false readings of all stretches that are placed, together.
 abbrev pub false_in_all : (log : List Entry) (ss : List Stretch) → Every (Assigned log) ss → ℕ
 false_in_all log [] a = 0
 false_in_all log (s ∷ ss) a = false_in log s a.0 + false_in_all log ss a.1
 
 -- WITHHELD WORDS. A word that came sealed.
 abbrev pub SealedHeard : Heard → Type 0
-SealedHeard w = w.mask ≡ 65535
+SealedHeard w = SealedWord (heard_wire w)
 
 -- Seventeen sealed words in a row, somewhere among some words.
 abbrev pub RowOf17 : List Heard → Type 0
@@ -100,7 +104,7 @@ pub record RowIs (n : ℕ) (ws : List Heard) : Type 0 where
   pub parts : ws ≡ before ++ those
   pub long : length those ≡ n
   pub sealed : Every SealedHeard those
-  pub no_more : (c : List Heard) (y : Heard) → before ≡ c ++ y ∷ [] → y.mask ≢ 65535
+  pub no_more : (c : List Heard) (y : Heard) → before ≡ c ++ y ∷ [] → ¬ SealedHeard y
 
 -- A word is withheld, and the answer carries the row up to and with the word itself.
 abbrev pub IsWithheld : List Heard → Heard → Type 0
@@ -165,13 +169,13 @@ abbrev pub Carries : (ℕ → ℕ) → (ℕ → ℕ) → Stretch → List ℕ �
 Carries f A s tag =
     (nonce : List ℕ) × (s.mark ≡ begin nonce) × (tag ≡ message_tag f A nonce (opened_message f A nonce (map heard_wire s.words)))
 
--- The verdict on a tag, by the stretch that it ends: "agrees" exactly where an unbroken stretch carries the tag, "broken" exactly where the
--- stretch came after another mark than a begin, and else "differs".
+-- The verdict on a tag, by the stretch that it ends: "agrees" exactly where the stretch carries the tag, "broken" exactly where it came after
+-- another mark than a begin, and else "differs".
 pub record Judged (f A : ℕ → ℕ) (s : Stretch) (tag : List ℕ) (verdict : Verdict) : Type 0 where
   pub agrees : (verdict ≡ Agrees) ↔ Carries f A s tag
   pub broken : (verdict ≡ Broken) ↔ ((nonce : List ℕ) → s.mark ≢ begin nonce)
 
--- The same by the latest stretch of a log.
+-- The same of the latest stretch of the log before the finish, which is the one that it ends.
 abbrev pub JudgedLatest : (ℕ → ℕ) → (ℕ → ℕ) → List Entry → List ℕ → Verdict → Type 0
 JudgedLatest f A before tag verdict =
     (s : Stretch) × (others : List Stretch) × (stretches before ≡ s ∷ others) × Judged f A s tag verdict
@@ -181,15 +185,17 @@ pub record Law (f A : ℕ → ℕ) (log : List Entry) (sealer receiver : State) 
   -- 1. The registers of each end are those that its words since its latest reset define.
   pub of_sealer : sealer ≡ sealer_registers f A log
   pub of_receiver : receiver ≡ receiver_registers f A log
-  -- 2. Where the latest seventeen words since the latest reset were sealed at both ends, the cipher registers are equal exactly when those
-  -- seventeen wire words are equal in order.
-  pub in_step : SeventeenSealed (sent_wires log) → SeventeenSealed (heard_wires log) →
-      (sealer.r ≡ receiver.r) ↔ (wires (latest_17 (sent_wires log)) ≡ wires (latest_17 (heard_wires log)))
-  -- 3. In a stretch that is placed in a message every reading is true; in a run whose stretches are all assigned the number of false readings
-  -- is zero.
+  -- 2. At any moment of the sealer and at any of the receiver: where the latest seventeen words since the latest reset were sealed at both
+  -- ends, the cipher registers are equal exactly when those seventeen wire words are equal in order.
+  pub in_step : (sent heard : List Entry) → Beginning log sent → Beginning log heard →
+      SeventeenSealed (sent_wires sent) → SeventeenSealed (heard_wires heard) →
+      ((sealer_registers f A sent).r ≡ (receiver_registers f A heard).r) ↔
+      (wires (latest_17 (sent_wires sent)) ≡ wires (latest_17 (heard_wires heard)))
+  -- 3. In a stretch that is placed in a message every reading is true; and however the stretches of the run are placed, or left out, the
+  -- number of false readings is zero.
   pub true_readings : (s : Stretch) → Contains (stretches log) s → (p : Placed log s) → TrueReadings s.words p.those
   pub no_false_reading : (a : Every (Assigned log) (stretches log)) → false_in_all log (stretches log) a ≡ 0
-  -- 4. Exactly these words are withheld, and each answer carries its row.
+  -- 4. Exactly these words are withheld, and each answer that withholds carries its row.
   pub withheld : Every Withholds (stretches log)
   -- 5. One altered word shows in the check registers just before closing, and with seventeen or more later words in the registers that the
   -- tags are drawn from.
@@ -198,11 +204,17 @@ pub record Law (f A : ℕ → ℕ) (log : List Entry) (sealer receiver : State) 
   pub altered_tag : (u : Unbroken log) → (a : OneAltered (map wire_of u.message.words) (map heard_wire u.stretch.words)) →
       17 ≤ length a.later →
       drawn_from f (sealer_registers f A u.sealer_before) ≢ drawn_from f (receiver_registers f A u.receiver_before)
-  -- 6. Wire words and tags are those of the published cipher; a message that is received as it was sent is read as it was given; and each
-  -- verdict is the one that the tag deserves.
+  -- 6. Wire words and tags are those of the published cipher, and each reading is what it makes of the wire word after the words received
+  -- before.
   pub published : Every (Published f A) (messages log)
   pub published_tags : (before later : List Entry) (tag : List ℕ) → log ≡ before ++ OfSealer (Finished tag) ∷ later → PublishedTag f A before tag
+  pub published_readings : (before later : List Entry) (mask wire p : ℕ) →
+      log ≡ before ++ OfReceiver (Received mask wire (Reading p)) ∷ later → p ≡ plain_word f (receiver_registers f A before) mask wire
+  -- A message that is received as it was sent is read as it was given, and the tag that agrees is the one that was sent. Each verdict is the
+  -- one that the tag deserves.
   pub comes_back : (s : Stretch) → Contains (stretches log) s → (m : Message) → Contains (messages log) m → s.mark ≡ begin m.nonce →
       map heard_wire s.words ≡ map wire_of m.words → map (λ w. w.answer) s.words ≡ map (λ w. Reading w.plain) m.words
+  pub tag_agrees : (u : Unbroken log) → map heard_wire u.stretch.words ≡ map wire_of u.message.words →
+      (u.verdict ≡ Agrees) ↔ (u.heard_tag ≡ u.sent_tag)
   pub verdicts : (before later : List Entry) (tag : List ℕ) (verdict : Verdict) → log ≡ before ++ OfReceiver (Ended tag verdict) ∷ later →
       JudgedLatest f A before tag verdict
