@@ -13,6 +13,7 @@ pub mod Readings
 pub mod InStep
 pub mod Alteration
 pub mod Withheld
+pub mod Noted
 pub mod Judging
 pub mod Loss
 pub mod Progress

@@ -4,7 +4,7 @@ use Rattle.std.specs.List.{AllByRecursion as Every}
 use Rattle.std.proofs.lemmas.List.{length_push, same_from_push}
 use Rattle.std.proofs.lemmas.Bool.{cond_both, eqb-true, eqb-false}
 use Rattle.link.specs.Receiving.{Released, decided, row_after, with_row}
-use Rattle.link.specs.Ends.{EntryLeads, Leads}
+use Rattle.link.specs.Ends.{Leads}
 use Rattle.link.specs.Log.{Mark, new, begin, break, finish, Heard, Stretch, marked, stretch_noted, stretches}
 use Rattle.link.specs.Law.{SealedHeard, RowOf17, RowIs, IsWithheld, HandedOut, Withholds}
 use Rattle.link.specs.declared.reception.Reception.{Reception}
@@ -199,6 +199,11 @@ heard_stands ss s s' BrokenOff to h =
 heard_stands ss s s' (Finished tag verdict) to h =
     mark_stands finish ss s s'
     (other_stands finish s' (to.0 ∙ finish_lost s) (λ n e. let z : ◌≡◌ {A = ℕ} 0 1 = cc in omega arith)) h
+
+-- An entry of the sealer leaves the receiver where it stands.
+abbrev pub EntryLeads : Reception → Entry → Reception → Type 0
+EntryLeads s (OfSealer e) s' = s' ≡ s
+EntryLeads s (OfReceiver e) s' = Leads s e s'
 
 -- A log of no entries, and one entry more, whatever the keyed functions answer.
 pub new_stands : Standing (stretches []) (Lost 0)

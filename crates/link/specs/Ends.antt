@@ -1,5 +1,5 @@
 -- The two ends of a link by what their calls leave: where each stands, and its registers.
-use Rattle.std.specs.Prelude.{◌≡◌, ℕ, ◌+◌, ◌%◌, ◌<◌, Bool, cond, ◌&&◌, List, [], ◌∷◌, ◌++◌, length, vec_items, fold, ◌==◌, nat_le, nat_lt}
+use Rattle.std.specs.Prelude.{◌≡◌, ℕ, ◌+◌, ◌%◌, ◌<◌, Bool, cond, ◌&&◌, List, [], ◌∷◌, ◌++◌, length, vec_items, fold, Option, Some, None, ◌==◌, nat_le, nat_lt}
 use Rattle.std.specs.List.{AllByRecursion as Every}
 use Rattle.sss.specs.Cipher.{State, Word, begun, plain_word, tag, taken, wire_word, zeroed}
 use Rattle.sss.specs.declared.Fault.TheVariants.{Nonce as UnfitNonce, Full}
@@ -50,6 +50,11 @@ sealing (Open m) = in_message m.words m.engine.registers
 abbrev pub receiving : {K C : Type 0} → Receiver K C → Receiving
 receiving r = record { reception = r.footing.reception; registers = r.engine.registers }
 
+-- How many words the open message of the code's sealer has, if one is open.
+abbrev pub words_open : {K C : Type 0} → Sealer K C → Option ℕ
+words_open (Ready s) = None
+words_open (Open m) = Some m.words
+
 -- The sealer's engine, whichever state it is in.
 abbrev pub sealer_engine : {K C : Type 0} → Sealer K C → Engine K C
 sealer_engine (Ready s) = s.engine
@@ -97,11 +102,6 @@ Leads s (receiver_entry.Received mask wire answer) s' =
     (s' ≡ (decided s (event.Word mask)).0) × Released (decided s (event.Word mask)).1 answer
 Leads s receiver_entry.BrokenOff s' = s' ≡ (decided s event.Break).0
 Leads s (receiver_entry.Finished tag verdict) s' = (s' ≡ (decided s event.Finish).0) × Given (decided s event.Finish).1 verdict
-
--- An entry of the sealer leaves the receiver where it stands.
-abbrev pub EntryLeads : Reception → Entry → Reception → Type 0
-EntryLeads s (OfSealer e) s' = s' ≡ s
-EntryLeads s (OfReceiver e) s' = Leads s e s'
 
 -- Both ends.
 pub record Ends : Type 0 where

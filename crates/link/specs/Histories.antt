@@ -6,12 +6,15 @@ use Rattle.std.specs.declared.alloc.Global.{Global}
 use Rattle.sss.specs.Asked.{Keeps}
 use Rattle.sss.specs.declared.keyed.KeyedFunction.{Ghosts as Keyed}
 use Rattle.sss.specs.declared.coefficient.Coefficient.{Ghosts as Linear}
-use Rattle.link.specs.Ends.{Ends, EntryLeads, history, one_call, receiving, registers_of, sealer_engine, sealing}
+use Rattle.link.specs.Ends.{Ends, Leads, history, one_call, receiving, registers_of, sealer_engine, sealing, words_open}
+use Rattle.link.specs.Noting.{NotesAll, NotesReceiver, NotesSealer, open_then}
 use Rattle.link.specs.Log.{stretches}
 use Rattle.link.specs.Law.{Law, Withholds}
 use Rattle.link.specs.Meaning.{function_of}
 use Rattle.link.specs.declared.call.Call.{Call}
+use Rattle.link.specs.declared.call.Call.TheVariants.{OnSealer, OnReceiver}
 use Rattle.link.specs.declared.call.Entry.{Entry}
+use Rattle.link.specs.declared.call.Entry.TheVariants.{OfSealer, OfReceiver}
 use Rattle.link.specs.declared.history.History.{History}
 
 module _ {SK SC RK RC : Type 0} where
@@ -24,10 +27,23 @@ module _ {SK SC RK RC : Type 0} where
     pub length : vec_len h.log ≡ vec_len log + 1
     pub room : vec_capacity log ≤ vec_capacity h.log
 
-  -- One entry more, whatever the keyed functions answer.
-  abbrev pub OneEntry : History SK SC RK RC → History SK SC RK RC → Type 0
-  OneEntry h h' =
-      (e : Entry) × (vec_items h'.log ≡ vec_items h.log ++ e ∷ []) × EntryLeads h.receiver.footing.reception e h'.receiver.footing.reception
+  -- The entry of a call on either end, and what it says of where both then stand, whatever the keyed functions answer.
+  abbrev pub EntryOf : History SK SC RK RC → Call → Entry → History SK SC RK RC → Type 0
+  EntryOf h (OnSealer x) (OfSealer e) h' =
+      NotesSealer (words_open h.sealer) x e × (words_open h'.sealer ≡ open_then (words_open h.sealer) e) ×
+      (h'.receiver.footing.reception ≡ h.receiver.footing.reception)
+  EntryOf h (OnSealer x) (OfReceiver e) h' = ⊥
+  EntryOf h (OnReceiver x) (OfSealer e) h' = ⊥
+  EntryOf h (OnReceiver x) (OfReceiver e) h' =
+      NotesReceiver x e × Leads h.receiver.footing.reception e h'.receiver.footing.reception × (words_open h'.sealer ≡ words_open h.sealer)
+
+  -- One entry more.
+  abbrev pub OneEntry : History SK SC RK RC → Call → History SK SC RK RC → Type 0
+  OneEntry h x h' = (e : Entry) × (vec_items h'.log ≡ vec_items h.log ++ e ∷ []) × EntryOf h x e h'
+
+  -- THE LOG, with no assumption: one entry for each call, in order, which says what became of it.
+  abbrev pub NotesCalls : List Call → History SK SC RK RC → Type 0
+  NotesCalls calls h = NotesAll [] calls (vec_items h.log)
 
   -- THE WITHHELD WORDS, with no assumption: whatever the keyed functions are, and whatever was sent and received, exactly those words of each
   -- stretch are withheld that must be, each with its row.

@@ -4,6 +4,7 @@ pub mod Issuing
 pub mod Sealing
 pub mod Receiving
 pub mod Hearing
+pub mod Noting
 pub mod Ends
 pub mod Log
 pub mod Law

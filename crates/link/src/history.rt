@@ -1,7 +1,7 @@
 //! Histories: a list of calls on two new ends, and the law of a loss, which holds of every one.
 ghost use Rattle.std.specs.Prelude.{◌<◌, ◌≤◌, IfOk, vec_len, vec_capacity, MatchResult, OnErr};
 ghost use Rattle.link.specs.Ends.{CallFits, sealer_engine};
-ghost use Rattle.link.specs.Histories.{IsHistory, ObeysLaw, OneEntry, OneLonger, OneMore, SameMeaning, WithheldExactly};
+ghost use Rattle.link.specs.Histories.{IsHistory, NotesCalls, ObeysLaw, OneEntry, OneLonger, OneMore, SameMeaning, WithheldExactly};
 
 use crate::call::{Call, Entry};
 use crate::ends::Sealer;
@@ -29,7 +29,7 @@ where
     fn take(self, call: Call) -> Result<Self, AllocError>
         ensures value { IfOk result (OneMore SK.KeyedFunction SC.Coefficient RK.KeyedFunction RC.Coefficient self call) }
         ensures meaning { IfOk result (SameMeaning SK.KeyedFunction SC.Coefficient RK.KeyedFunction RC.Coefficient (sealer_engine self.sealer).function (sealer_engine self.sealer).coefficient self.receiver.engine.function self.receiver.engine.coefficient) }
-        ensures entry { IfOk result (OneEntry self) }
+        ensures entry { IfOk result (OneEntry self call) }
         ensures fits { CallFits call }
         ensures room { MatchResult result (OneLonger self.log) (λ _. vec_capacity self.log ≤ vec_len self.log) }
     {
@@ -77,6 +77,7 @@ where
     RC: Coefficient + Drop,
     ensures value { IfOk result (IsHistory SK.KeyedFunction SC.Coefficient RK.KeyedFunction RC.Coefficient sealer receiver calls.items) }
     ensures law { IfOk result (ObeysLaw SK.KeyedFunction SC.Coefficient RK.KeyedFunction RC.Coefficient sealer receiver) }
+    ensures noted { IfOk result (NotesCalls calls.items) }
     ensures withheld { IfOk result WithheldExactly }
     ensures meaning { IfOk result (SameMeaning SK.KeyedFunction SC.Coefficient RK.KeyedFunction RC.Coefficient sealer.0 sealer.1 receiver.0 receiver.1) }
     ensures room { OnErr result (vec_capacity log < vec_len calls) }

@@ -6,12 +6,14 @@ use Rattle.sss.specs.Asked.{Keeps}
 use Rattle.sss.specs.declared.keyed.KeyedFunction.{Ghosts as Keyed}
 use Rattle.sss.proofs.Asked.{keeps_on}
 use Rattle.sss.proofs.OneToOne.{keyed_one_to_one}
-use Rattle.link.specs.Ends.{Ends, CallFits, history, new_ends, one_call, ready, receiving, sealer_engine}
+use Rattle.link.specs.Ends.{Ends, CallFits, history, new_ends, one_call, ready, receiving, sealer_engine, words_open}
 use Rattle.link.specs.Histories.{after}
 use Rattle.link.specs.Log.{stretches}
 use Rattle.link.specs.declared.call.Call.{Call}
 use Rattle.link.specs.declared.call.Entry.{Entry}
 use Rattle.link.proofs.Progress.{ToCome, enough_more, refused_by, to_come_by, too_small, to_come_more, to_come_none, fits_more, fits_none, history_law}
+use Rattle.link.specs.Noting.{NotesAll}
+use Rattle.link.proofs.Noted.{all_made, entry_leads, none_made, one_made}
 use Rattle.link.proofs.Withheld.{all_withheld, entry_stands, new_stands}
 use Rattle.link.proofs.history.run.Goals as goal
 
@@ -29,6 +31,7 @@ loop-call-init g c = (
   refl,
   λ h. h,
   rw (c.clear.ensures.items, c.new-2.ensures.reception) new_stands,
+  rw c.clear.ensures.items (none_made (into_iter_items c.into_iter-call-iterator.result)),
 )
 
 pub loop-call-preserved : goal.loop-call-preserved
@@ -68,7 +71,9 @@ loop-call-preserved g c =
       enough_more c.clear.new.self c.loop-call.history.log next.log all left rest x inv.6 first said.room.length said.room.room,
       rw said.entry.1
           (entry_stands (vec_items c.loop-call.history.log) c.loop-call.history.receiver.footing.reception next.receiver.footing.reception
-          said.entry.0 said.entry.2 inv.7),
+          said.entry.0 (entry_leads c.loop-call.history next x said.entry.0 said.entry.2) inv.7),
+      one_made c.loop-call.history next all left rest (vec_items c.loop-call.history.log) (vec_items next.log) x said.entry.0 inv.8 first
+          said.entry.1 said.entry.2,
     )
 
 pub returns-in_err-history : goal.returns-in_err-history
@@ -80,6 +85,7 @@ returns-in_err-history g c =
     record {
       value = search rules;
       law = search rules;
+      noted = search rules;
       withheld = search rules;
       meaning = search rules;
       room =
@@ -127,6 +133,9 @@ returns g c =
           (g.met.SC.Coefficient.lawful c.args.sealer.1) (ap keyed table) image calls
           (subst (Every CallFits) c.into_iter-call-iterator.ensures.into_iter_gives.0 (inv.1 (fits_none rest none)))
           (after c.loop-call.history) (value s r) withheld;
+      noted =
+          subst (λ (z : List Call). NotesAll [] z (vec_items c.loop-call.history.log)) c.into_iter-call-iterator.ensures.into_iter_gives.0
+          (all_made all rest (vec_items c.loop-call.history.log) (words_open c.loop-call.history.sealer) inv.8 none);
       withheld = withheld;
       meaning =
           record {

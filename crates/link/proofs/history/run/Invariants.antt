@@ -3,9 +3,10 @@ use Rattle.std.specs.Vec.Iter.{into_iter_items}
 use Rattle.std.specs.List.{AllByRecursion as Every}
 use Rattle.sss.specs.Cipher.{keyed}
 use Rattle.sss.specs.Asked.{Keeps}
-use Rattle.link.specs.Ends.{CallFits, sealer_engine}
+use Rattle.link.specs.Ends.{CallFits, sealer_engine, words_open}
 use Rattle.link.specs.Histories.{after}
 use Rattle.link.specs.Log.{stretches}
+use Rattle.link.proofs.Noted.{Made}
 use Rattle.link.proofs.Progress.{Enough, ToCome}
 use Rattle.link.proofs.Withheld.{Standing}
 use Rattle.link.proofs.history.run.Given as goal
@@ -28,4 +29,5 @@ invariant-loop-call g l =
     ((sealer_engine l.history.sealer).coefficient ≡ a) ×
     (l.history.receiver.engine.coefficient ≡ b) ×
     Enough l.initial.history.log all l.history.log rest ×
-    Standing (stretches (vec_items l.history.log)) l.history.receiver.footing.reception
+    Standing (stretches (vec_items l.history.log)) l.history.receiver.footing.reception ×
+    Made all rest (vec_items l.history.log) (words_open l.history.sealer)
