@@ -73,12 +73,6 @@ module _ (f A : ℕ → ℕ) where
         h.1,
       )
 
--- A finish leaves a lost receiver with row 0, wherever it stood.
-pub finish_lost : (s : Reception) → (decided s event.Finish).0 ≡ Lost 0
-finish_lost Whole = refl
-finish_lost Caught = refl
-finish_lost (Lost n) = refl
-
 module _ (f A : ℕ → ℕ) (onef : OneToOne f) (oneA : OneToOne A) where
   -- What holds of the receiver holds after each call on it.
   pub receiver_keeps : (s : Receiving) (ss : List Stretch) (since : Since Heard) (x : ReceiverCall) → ReceiverCallFits x →
@@ -120,10 +114,10 @@ module _ (f A : ℕ → ℕ) (onef : OneToOne f) (oneA : OneToOne A) where
         reached = h.reached;
       }
   receiver_keeps s ss since (End t) fits h =
-      let s' : Receiving = record { reception = (decided s.reception event.Finish).0; registers = zeroed } in
+      let s' : Receiving = record { reception = Lost 0; registers = zeroed } in
       record {
         sized = zeroed_sized;
-        followed = mark_noted f A s s' finish ss zeroed_sized tt (finish_lost s.reception) h.followed;
+        followed = mark_noted f A s s' finish ss zeroed_sized tt refl h.followed;
         start_fits = tt;
         words_fit = tt;
         reached = refl;

@@ -8,6 +8,7 @@ use Rattle.link.specs.Ends.{registers_of, Sealing, ready, in_message, Receiving,
 use Rattle.link.specs.Log.{Sent, Message, messages, Mark, begin, Heard, Stretch, stretches, Since, sent_since, heard_since, plain_of, wire_of, heard_wire, start_of, sealer_registers, receiver_registers}
 use Rattle.link.specs.Law.{Law, Beginning, Judged, Published, SeventeenSealed, Unbroken, Withholds, heard_wires, latest_17, sent_wires, wires}
 use Rattle.link.specs.declared.reception.Event.TheVariants as event
+use Rattle.link.specs.declared.reception.Reception.TheVariants.{Whole}
 use Rattle.link.specs.declared.reception.Release.{Release}
 use Rattle.link.specs.declared.reception.Release.TheVariants.{HandOut, Withhold}
 use Rattle.link.specs.declared.reception.Answer.TheVariants.{Reading}
@@ -65,7 +66,7 @@ module _ (f A : ℕ → ℕ) where
   unfolding receiver_made
   verdict_given s (Hear nonce) t v e =
       absurd (cond_both (nonce_taken (vec_items nonce))
-      (record { reception = (decided s.reception event.Begin).0; registers = begun f A (vec_items nonce) }, BegunThere nonce)
+      (record { reception = Whole; registers = begun f A (vec_items nonce) }, BegunThere nonce)
       (s, RefusedThere nonce Nonce) (λ (o : Receiving × ReceiverEntry). o.1 ≡ Ended t v → ⊥)
       (λ b h. let z : ◌≡◌ {A = ℕ} 0 1 = cc in omega arith) (λ b h. let z : ◌≡◌ {A = ℕ} 0 1 = cc in omega arith) e)
   verdict_given s (Take mask m) t v e = absurd (let z : ◌≡◌ {A = ℕ} 0 1 = cc in omega arith)
@@ -85,7 +86,7 @@ module _ (f A : ℕ → ℕ) where
   unfolding receiver_made
   reading_given s (Hear nonce) mask wire p e =
       absurd (cond_both (nonce_taken (vec_items nonce))
-      (record { reception = (decided s.reception event.Begin).0; registers = begun f A (vec_items nonce) }, BegunThere nonce)
+      (record { reception = Whole; registers = begun f A (vec_items nonce) }, BegunThere nonce)
       (s, RefusedThere nonce Nonce) (λ (o : Receiving × ReceiverEntry). o.1 ≡ Received mask wire (Reading p) → ⊥)
       (λ b h. let z : ◌≡◌ {A = ℕ} 0 1 = cc in omega arith) (λ b h. let z : ◌≡◌ {A = ℕ} 0 1 = cc in omega arith) e)
   reading_given s (Take k m) mask wire p e =

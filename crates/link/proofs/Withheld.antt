@@ -19,7 +19,6 @@ use Rattle.link.specs.declared.call.ReceiverEntry.{ReceiverEntry}
 use Rattle.link.specs.declared.call.ReceiverEntry.TheVariants.{Begun, Refused, Received, BrokenOff, Finished}
 use Rattle.link.proofs.Every.{every_push}
 use Rattle.link.proofs.Invariants.{moved}
-use Rattle.link.proofs.Hearing.{finish_lost}
 use Rattle.link.proofs.Runs.{cut_push, stretches_push}
 
 -- Some words are none, or they have a last one.
@@ -198,7 +197,7 @@ heard_stands ss s s' BrokenOff to h =
     mark_stands break ss s s' (other_stands break s' to (λ n e. let z : ◌≡◌ {A = ℕ} 0 1 = cc in omega arith)) h
 heard_stands ss s s' (Finished tag verdict) to h =
     mark_stands finish ss s s'
-    (other_stands finish s' (to.0 ∙ finish_lost s) (λ n e. let z : ◌≡◌ {A = ℕ} 0 1 = cc in omega arith)) h
+    (other_stands finish s' to.0 (λ n e. let z : ◌≡◌ {A = ℕ} 0 1 = cc in omega arith)) h
 
 -- An entry of the sealer leaves the receiver where it stands.
 abbrev pub EntryLeads : Reception → Entry → Reception → Type 0

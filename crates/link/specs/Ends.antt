@@ -20,7 +20,7 @@ use Rattle.link.specs.declared.call.SealerEntry.TheVariants as sealer_entry
 use Rattle.link.specs.declared.call.ReceiverEntry.{ReceiverEntry}
 use Rattle.link.specs.declared.call.ReceiverEntry.TheVariants as receiver_entry
 use Rattle.link.specs.declared.reception.Reception.{Reception}
-use Rattle.link.specs.declared.reception.Reception.TheVariants.{Lost}
+use Rattle.link.specs.declared.reception.Reception.TheVariants.{Lost, Whole}
 use Rattle.link.specs.declared.reception.Event.TheVariants as event
 use Rattle.link.specs.declared.receiver.Receiver.{Receiver}
 use Rattle.link.specs.declared.ends.Sealer.{Sealer}
@@ -81,27 +81,27 @@ nonce_taken bytes = length bytes % 2 == 0 && nat_le (length bytes) 32
 unfoldable pub receiver_made : (ℕ → ℕ) → (ℕ → ℕ) → Receiving → ReceiverCall → Receiving × ReceiverEntry
 receiver_made f A s (Hear nonce) =
     cond (nonce_taken (vec_items nonce))
-    (record { reception = (decided s.reception event.Begin).0; registers = begun f A (vec_items nonce) }, receiver_entry.Begun nonce)
+    (record { reception = Whole; registers = begun f A (vec_items nonce) }, receiver_entry.Begun nonce)
     (s, receiver_entry.Refused nonce UnfitNonce)
 receiver_made f A s (Take mask m) =
     let p : ℕ = plain_word f s.registers mask m in
     let d = decided s.reception (event.Word mask) in
     (record { reception = d.0; registers = taken f A s.registers mask p }, receiver_entry.Received mask m (answer_of d.1 p))
-receiver_made f A s Break =
-    (record { reception = (decided s.reception event.Break).0; registers = s.registers }, receiver_entry.BrokenOff)
-receiver_made f A s (End t) =
-    let d = decided s.reception event.Finish in
-    (record { reception = d.0; registers = zeroed }, receiver_entry.Finished t (verdict_of d.1 t (tag f s.registers)))
+receiver_made f A s Break = (record { reception = Lost 0; registers = s.registers }, receiver_entry.BrokenOff)
+receiver_made f A s (End t) = (
+  record { reception = Lost 0; registers = zeroed },
+  receiver_entry.Finished t (verdict_of (decided s.reception event.Finish).1 t (tag f s.registers)),
+)
 
 -- What an entry of the receiver says whatever the keyed function answers: where the receiver then stands, whether a word was handed out, the
 -- row of one that was not, and whether a verdict is broken.
 abbrev pub Leads : Reception → ReceiverEntry → Reception → Type 0
-Leads s (receiver_entry.Begun nonce) s' = s' ≡ (decided s event.Begin).0
+Leads s (receiver_entry.Begun nonce) s' = s' ≡ Whole
 Leads s (receiver_entry.Refused nonce fault) s' = s' ≡ s
 Leads s (receiver_entry.Received mask wire answer) s' =
     (s' ≡ (decided s (event.Word mask)).0) × Released (decided s (event.Word mask)).1 answer
-Leads s receiver_entry.BrokenOff s' = s' ≡ (decided s event.Break).0
-Leads s (receiver_entry.Finished tag verdict) s' = (s' ≡ (decided s event.Finish).0) × Given (decided s event.Finish).1 verdict
+Leads s receiver_entry.BrokenOff s' = s' ≡ Lost 0
+Leads s (receiver_entry.Finished tag verdict) s' = (s' ≡ Lost 0) × Given (decided s event.Finish).1 verdict
 
 -- Both ends.
 pub record Ends : Type 0 where

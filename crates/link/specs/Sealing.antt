@@ -1,19 +1,17 @@
 -- What a word of an open message answers and leaves.
 use Rattle.std.specs.Prelude.{◌≡◌, ℕ, ◌+◌, ◌<◌, ◌≤◌, Ok, Err, Result}
-use Rattle.sss.specs.Cipher.{taken, wire_word}
 use Rattle.sss.specs.declared.Fault.{Fault}
 use Rattle.sss.specs.declared.Fault.TheVariants.{Full}
 use Rattle.sss.specs.declared.keyed.KeyedFunction.{Ghosts as Keyed}
 use Rattle.sss.specs.declared.coefficient.Coefficient.{Ghosts as Linear}
-use Rattle.link.specs.Engines.{Worked}
+use Rattle.link.specs.Engines.{SealsWord}
 use Rattle.link.specs.declared.sealer.OpenMessage.{OpenMessage}
 
 -- The word is counted, its wire word is the published one, and so are the registers after it.
 pub record Sealed {K C : Type 0} (F : Keyed K) (L : Linear C) (before : OpenMessage K C) (mask plain wire : ℕ) (after : OpenMessage K C) : Type 0 where
   pub room : before.words < 65536
   pub words : after.words ≡ before.words + 1
-  pub worked : Worked F L before.engine after.engine (λ f A.
-      (wire ≡ wire_word f before.engine.registers mask plain) × (after.engine.registers ≡ taken f A before.engine.registers mask plain))
+  pub worked : SealsWord F L before.engine mask plain wire after.engine
 
 -- A message has at most 65,536 words: the call for one more is refused, and the message is as it was.
 abbrev pub Seals : {K C : Type 0} → Keyed K → Linear C → OpenMessage K C → ℕ → ℕ → Result ℕ Fault → OpenMessage K C → Type 0

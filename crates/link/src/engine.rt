@@ -1,8 +1,7 @@
 //! What either end works with.
 ghost use Rattle.std.specs.Prelude.{◌≡◌};
-ghost use Rattle.sss.specs.Cipher.{begun, plain_word, tag, taken, wire_word, zeroed};
-ghost use Rattle.sss.specs.Outcomes.{TakesNonce};
-ghost use Rattle.link.specs.Engines.{Worked};
+ghost use Rattle.sss.specs.Cipher.{tag, zeroed};
+ghost use Rattle.link.specs.Engines.{BeginsMessage, OpensWord, SealsWord, Worked};
 
 use sss::{Coefficient, Fault, KeyedFunction, Registers};
 
@@ -41,7 +40,7 @@ impl<K, C> Engine<K, C> {
 impl<K: KeyedFunction, C: Coefficient> Engine<K, C> {
     /// Begins a message. A nonce of an odd number of bytes or of more than 32 is refused, and nothing is changed.
     pub(crate) fn begin(&mut self, nonce: &[u8]) -> Result<(), Fault>
-        ensures { TakesNonce nonce.now (λ _. Worked K.KeyedFunction C.Coefficient self.old self.new (λ f A. self.new.registers ≡ begun f A nonce.now)) (self.new ≡ self.old) result }
+        ensures { BeginsMessage K.KeyedFunction C.Coefficient self.old nonce.now result self.new }
     {
         self.registers
             .begin(&mut self.function, &self.coefficient, nonce)
@@ -49,7 +48,7 @@ impl<K: KeyedFunction, C: Coefficient> Engine<K, C> {
 
     /// Takes a plaintext word under its mask, and answers its wire word.
     pub(crate) fn seal_word(&mut self, mask: u16, plain: u16) -> u16
-        ensures { Worked K.KeyedFunction C.Coefficient self.old self.new (λ f A. (result ≡ wire_word f self.old.registers mask plain) × (self.new.registers ≡ taken f A self.old.registers mask plain)) }
+        ensures { SealsWord K.KeyedFunction C.Coefficient self.old mask plain result self.new }
     {
         self.registers
             .seal_word(&mut self.function, &self.coefficient, mask, plain)
@@ -57,7 +56,7 @@ impl<K: KeyedFunction, C: Coefficient> Engine<K, C> {
 
     /// Takes a wire word under its mask, and answers its plaintext word.
     pub(crate) fn open_word(&mut self, mask: u16, wire: u16) -> u16
-        ensures { Worked K.KeyedFunction C.Coefficient self.old self.new (λ f A. (result ≡ plain_word f self.old.registers mask wire) × (self.new.registers ≡ taken f A self.old.registers mask (plain_word f self.old.registers mask wire))) }
+        ensures { OpensWord K.KeyedFunction C.Coefficient self.old mask wire result self.new }
     {
         self.registers
             .open_word(&mut self.function, &self.coefficient, mask, wire)

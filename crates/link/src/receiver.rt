@@ -1,10 +1,8 @@
 //! The receiver.
 ghost use Rattle.std.specs.Prelude.{◌≡◌, ◌<◌};
 ghost use Rattle.std.specs.List.{AllByRecursion as Every};
-ghost use Rattle.sss.specs.Cipher.{plain_word, tag, taken, zeroed};
-ghost use Rattle.link.specs.Engines.{Worked};
-ghost use Rattle.link.specs.Hearing.{Begins};
-ghost use Rattle.link.specs.Receiving.{Given, Released, answer_of, decided, verdict_of};
+ghost use Rattle.sss.specs.Cipher.{zeroed};
+ghost use Rattle.link.specs.Hearing.{Begins, Finishes, TakesWord};
 
 use crate::engine::Engine;
 use crate::footing::Footing;
@@ -28,7 +26,7 @@ impl<K, C> Receiver<K, C> {
 
     /// Breaks off: words were lost. The receiver is lost with row 0, and no register is touched.
     pub fn break_off(&mut self)
-        ensures reception { self.new.footing.reception ≡ (decided self.old.footing.reception Event.Break).0 }
+        ensures reception { self.new.footing.reception ≡ Reception.Lost 0 }
         ensures engine { self.new.engine ≡ self.old.engine }
     {
         let _ = self.footing.go(Event::Break);
@@ -61,9 +59,7 @@ impl<K: KeyedFunction, C: Coefficient> Receiver<K, C> {
 
     /// Takes a word under its mask into both registers, whatever the state, and hands out its reading or withholds it.
     pub fn word(&mut self, mask: u16, wire: u16) -> Answer
-        ensures worked { Worked K.KeyedFunction C.Coefficient self.old.engine self.new.engine (λ f A. (result ≡ answer_of (decided self.old.footing.reception (Event.Word mask)).1 (plain_word f self.old.engine.registers mask wire)) × (self.new.engine.registers ≡ taken f A self.old.engine.registers mask (plain_word f self.old.engine.registers mask wire))) }
-        ensures released { Released (decided self.old.footing.reception (Event.Word mask)).1 result }
-        ensures reception { self.new.footing.reception ≡ (decided self.old.footing.reception (Event.Word mask)).0 }
+        ensures { TakesWord K.KeyedFunction C.Coefficient self.old mask wire result self.new }
     {
         let plain = self.engine.open_word(mask, wire);
         match self.footing.go(Event::Word(mask)) {
@@ -74,10 +70,7 @@ impl<K: KeyedFunction, C: Coefficient> Receiver<K, C> {
 
     /// Ends a message with the tag that was received, and answers the verdict. The receiver is then lost with row 0, its registers zero.
     pub fn finish(&mut self, received: [u16; 8]) -> Verdict
-        ensures worked { Worked K.KeyedFunction C.Coefficient self.old.engine self.new.engine (λ f _. result ≡ verdict_of (decided self.old.footing.reception Event.Finish).1 received (tag f self.old.engine.registers)) }
-        ensures given { Given (decided self.old.footing.reception Event.Finish).1 result }
-        ensures reception { self.new.footing.reception ≡ (decided self.old.footing.reception Event.Finish).0 }
-        ensures registers { self.new.engine.registers ≡ zeroed }
+        ensures { Finishes K.KeyedFunction C.Coefficient self.old received result self.new }
     {
         let drawn = self.engine.close();
         match self.footing.go(Event::Finish) {
