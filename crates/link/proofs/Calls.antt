@@ -5,7 +5,7 @@ use Rattle.std.proofs.lemmas.Bool.{lt-ltb, le-ltb, le-leb, leb-true, eq-eqb, eqb
 use Rattle.sss.specs.Cipher.{State, NonceFits, taken, wire_word}
 use Rattle.sss.specs.declared.Fault.{Fault}
 use Rattle.sss.specs.declared.Fault.TheVariants.{Full}
-use Rattle.link.specs.Ends.{Sealing, in_message, sealer_made, Receiving, receiver_made, nonce_taken, made, one_call}
+use Rattle.link.specs.Ends.{SealerState, in_message, sealer_made, ReceiverState, receiver_made, nonce_fits, made, one_call}
 use Rattle.link.specs.declared.call.SealerCall.{SealerCall}
 use Rattle.link.specs.declared.issuer.Nonce.{Nonce}
 use Rattle.link.specs.declared.call.SealerCall.TheVariants.{Word as Seal}
@@ -29,12 +29,12 @@ module _ (f A : ℕ → ℕ) (n n' : ℕ) (g g' : State) (mask p : ℕ) where
   unfolding sealer_made
   word_refused fault many same after is = rw (le-ltb n 65536 many) (λ i. (in_message (same i) (after i), Refused mask p (is i)))
 
-pub nonce_taken_true : (bytes : List ℕ) → NonceFits bytes → nonce_taken bytes ≡ true
-nonce_taken_true bytes fits = and_from _ _ (eq-eqb (length bytes % 2) 0 fits.0) (le-leb (length bytes) 32 fits.1)
+pub nonce_fits_true : (bytes : List ℕ) → NonceFits bytes → nonce_fits bytes ≡ true
+nonce_fits_true bytes fits = and_from _ _ (eq-eqb (length bytes % 2) 0 fits.0) (le-leb (length bytes) 32 fits.1)
 
-pub nonce_taken_false : (bytes : List ℕ) → (NonceFits bytes → ⊥) → nonce_taken bytes ≡ false
-nonce_taken_false bytes unfit =
-    elim (cases_Bool (nonce_taken bytes)) [
+pub nonce_fits_false : (bytes : List ℕ) → (NonceFits bytes → ⊥) → nonce_fits bytes ≡ false
+nonce_fits_false bytes unfit =
+    elim (cases_Bool (nonce_fits bytes)) [
       | inl yes' ↦
           let parts = and_parts (eqb (length bytes % 2) 0) (leb (length bytes) 32) yes' in
           absurd (unfit (eqb-true (length bytes % 2) 0 parts.0, leb-true (length bytes) 32 parts.1))
@@ -46,7 +46,7 @@ pub bytes_fit : (bs : List ℕ) → ((i : ℕ) → get_or bs i 0 < 256) → Ever
 bytes_fit bs h = every_place (λ b. b < 256) bs 0 (λ i l. h i)
 
 -- A call on either end, noted in the log.
-module _ (f A f' A' : ℕ → ℕ) (s s' : Sealing) (r r' : Receiving) (log items : List Entry) where
+module _ (f A f' A' : ℕ → ℕ) (s s' : SealerState) (r r' : ReceiverState) (log items : List Entry) where
   pub sealer_noted : (x : SealerCall Nonce) (e : SealerEntry) → (s', e) ≡ sealer_made f A s x → items ≡ log ++ OfSealer e ∷ [] →
       (record { sealer = s'; receiver = r }, items) ≡ one_call f A f' A' (record { sealer = s; receiver = r }, log) (OnSealer x)
   unfolding made

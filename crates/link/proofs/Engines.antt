@@ -3,11 +3,11 @@ use Rattle.std.proofs.Common.{◌≡◌, ℕ, sym, subst}
 use Rattle.sss.specs.Asked.{Asked}
 use Rattle.sss.proofs.Asked.{asked_so, not_asked}
 use Rattle.sss.specs.declared.keyed.KeyedFunction.{Ghosts as Keyed}
-use Rattle.sss.specs.declared.coefficient.Coefficient.{Ghosts as Linear}
+use Rattle.sss.specs.declared.coefficient.Coefficient.{Ghosts as Coefficient}
 use Rattle.link.specs.Engines.{Worked}
 use Rattle.link.specs.declared.engine.Engine.{Engine}
 
-module _ {K C : Type 0} {F : Keyed K} {L : Linear C} where
+module _ {K C : Type 0} {F : Keyed K} {L : Coefficient C} where
   -- What follows from the promise.
   pub worked_so : {e e' : Engine K C} {P Q : (ℕ → ℕ) → (ℕ → ℕ) → Type 0} → Worked F L e e' P → ((f A : ℕ → ℕ) → P f A → Q f A) → Worked F L e e' Q
   worked_so {e = e} p so = record { asked = asked_so p.asked (λ f q. so f (L.image e.coefficient) q); coefficient = p.coefficient }

@@ -5,13 +5,13 @@ use Rattle.std.proofs.lemmas.List.{map_push}
 use Rattle.std.proofs.lemmas.Bool.{cond_both}
 use Rattle.sss.specs.Cipher.{State, Word, OneToOne, begun, zeroed}
 use Rattle.sss.specs.declared.Fault.TheVariants.{Nonce}
-use Rattle.link.specs.Ends.{Receiving, nonce_taken, receiver_made, ReceiverCallFits}
+use Rattle.link.specs.Ends.{ReceiverState, nonce_fits, receiver_made, ReceiverCallFits}
 use Rattle.link.specs.Log.{Mark, begin, break, finish, Heard, Stretch, heard_too, marked, stretch_noted, Since, heard_noted, heard_wire, start_of}
 use Rattle.link.specs.Receiving.{decided}
 use Rattle.link.specs.declared.call.ReceiverCall.{ReceiverCall}
 use Rattle.link.specs.declared.call.ReceiverCall.TheVariants.{Begin as Hear, Word as Take, Break, Finish as End}
 use Rattle.link.specs.declared.call.ReceiverEntry.{ReceiverEntry}
-use Rattle.link.specs.declared.call.ReceiverEntry.TheVariants as receiver_entry
+use Rattle.link.specs.declared.call.ReceiverEntry.TheVariants as receiver
 use Rattle.link.specs.declared.reception.Reception.{Reception}
 use Rattle.link.specs.declared.reception.Reception.TheVariants.{Whole, Caught, Lost}
 use Rattle.link.specs.declared.reception.Event.TheVariants as event
@@ -21,7 +21,7 @@ use Rattle.link.proofs.Invariants.{moved, told, start, moves, Starts, Follows, P
 
 module _ (f A : ℕ → ℕ) where
   -- The present stretch and those that are over.
-  pub all_past : (s : Receiving) (ss : List Stretch) → AllStretches f A s ss → Every (Past f A) ss
+  pub all_past : (s : ReceiverState) (ss : List Stretch) → AllStretches f A s ss → Every (Past f A) ss
   all_past s [] h = absurd h
   all_past s (st ∷ ss) h = ((h.0.0, h.0.1, h.0.2, h.0.3), h.1)
 
@@ -46,13 +46,13 @@ module _ (f A : ℕ → ℕ) where
       sym (ap (all_received f A h) (map_push heard_wire ws w))
 
   -- A new mark.
-  mark_noted : (s s' : Receiving) (m : Mark) (ss : List Stretch) → Sized s'.registers → Starts f A m s'.registers →
+  mark_noted : (s s' : ReceiverState) (m : Mark) (ss : List Stretch) → Sized s'.registers → Starts f A m s'.registers →
       s'.reception ≡ start m → AllStretches f A s ss → AllStretches f A s' (marked m ss)
   unfolding all_received
   mark_noted s s' m ss k t e h = ((s'.registers, k, t, tt, e, refl), all_past s ss h)
 
   -- One more word of the present stretch.
-  word_noted : (s : Receiving) (ss : List Stretch) (w : Heard) → Word w.wire →
+  word_noted : (s : ReceiverState) (ss : List Stretch) (w : Heard) → Word w.wire →
       w.answer ≡ told f s.reception s.registers w.mask w.wire → AllStretches f A s ss →
       AllStretches f A
       (record { reception = moved s.reception w.mask; registers = received f A s.registers w.mask w.wire }) (heard_too w ss)
@@ -75,16 +75,16 @@ module _ (f A : ℕ → ℕ) where
 
 module _ (f A : ℕ → ℕ) (onef : OneToOne f) (oneA : OneToOne A) where
   -- What holds of the receiver holds after each call on it.
-  pub receiver_keeps : (s : Receiving) (ss : List Stretch) (since : Since Heard) (x : ReceiverCall) → ReceiverCallFits x →
+  pub receiver_keeps : (s : ReceiverState) (ss : List Stretch) (since : Since Heard) (x : ReceiverCall) → ReceiverCallFits x →
       ReceiverGood f A s ss since →
       (let o = receiver_made f A s x in ReceiverGood f A o.0 (stretch_noted o.1 ss) (heard_noted since o.1))
   unfolding receiver_made received all_received
   receiver_keeps s ss since (Hear nonce) fits h =
       let g : State = begun f A (vec_items nonce) in
-      let s' : Receiving = record { reception = Whole; registers = g } in
+      let s' : ReceiverState = record { reception = Whole; registers = g } in
       let k : Sized g = begun_sized f A onef oneA (vec_items nonce) fits in
-      cond_both (nonce_taken (vec_items nonce)) (s', receiver_entry.Begun nonce) (s, receiver_entry.Refused nonce Nonce)
-      (λ (o : Receiving × ReceiverEntry). ReceiverGood f A o.0 (stretch_noted o.1 ss) (heard_noted since o.1))
+      cond_both (nonce_fits (vec_items nonce)) (s', receiver.Begun nonce) (s, receiver.Refused nonce Nonce)
+      (λ (o : ReceiverState × ReceiverEntry). ReceiverGood f A o.0 (stretch_noted o.1 ss) (heard_noted since o.1))
       (λ e.
       record {
         sized = k;
@@ -114,7 +114,7 @@ module _ (f A : ℕ → ℕ) (onef : OneToOne f) (oneA : OneToOne A) where
         reached = h.reached;
       }
   receiver_keeps s ss since (End t) fits h =
-      let s' : Receiving = record { reception = Lost 0; registers = zeroed } in
+      let s' : ReceiverState = record { reception = Lost 0; registers = zeroed } in
       record {
         sized = zeroed_sized;
         followed = mark_noted f A s s' finish ss zeroed_sized tt refl h.followed;

@@ -3,7 +3,7 @@ use Rattle.std.proofs.Common.{◌≡◌, ℕ, ◌<◌, List, [], ◌∷◌, ◌+
 use Rattle.std.specs.List.{AllByRecursion as Every}
 use Rattle.sss.specs.Cipher.{State, Word, begun, plain_word, wire_word}
 use Rattle.link.specs.Receiving.{decided, answer_of}
-use Rattle.link.specs.Ends.{Sealing, ready, in_message, registers_of, Receiving, Ends, new_ends, made, CallFits}
+use Rattle.link.specs.Ends.{SealerState, ready, in_message, registers_of, ReceiverState, Ends, new_ends, made, CallFits}
 use Rattle.link.specs.Log.{Sent, Message, messages, Mark, new, begin, break, finish, Heard, Stretch, stretches, Since, sent_since, heard_since, wire_of, heard_wire, start_of}
 use Rattle.link.specs.declared.reception.Reception.{Reception}
 use Rattle.link.specs.declared.reception.Reception.TheVariants.{Whole, Lost}
@@ -49,12 +49,12 @@ module _ (f A : ℕ → ℕ) where
   SealedMessage m = Bytes m.nonce × SealedFrom (begun f A m.nonce) m.words
 
   -- where a message is open, it is the latest one, and its words are those since the latest reset
-  abbrev pub OpenAt : Sealing → List Message → Since Sent → Type 0
+  abbrev pub OpenAt : SealerState → List Message → Since Sent → Type 0
   OpenAt (ready g) ms s = Unit {0}
   OpenAt (in_message n g) ms s =
       (m : Message) × (earlier : List Message) × (ms ≡ m ∷ earlier) × (s ≡ record { start = Some m.nonce; words = m.words })
 
-  pub record SealerGood (s : Sealing) (ms : List Message) (since : Since Sent) : Type 0 where
+  pub record SealerGood (s : SealerState) (ms : List Message) (since : Since Sent) : Type 0 where
     pub sized : Sized (registers_of s)
     pub sealed : Every SealedMessage ms
     pub start_fits : StartFits since.start
@@ -79,16 +79,16 @@ module _ (f A : ℕ → ℕ) where
   abbrev pub Past : Stretch → Type 0
   Past st = (h : State) × Sized h × Starts st.mark h × Follows (start st.mark) h st.words
 
-  abbrev pub Present : Receiving → Stretch → Type 0
+  abbrev pub Present : ReceiverState → Stretch → Type 0
   Present s st =
       (h : State) × Sized h × Starts st.mark h × Follows (start st.mark) h st.words ×
       (s.reception ≡ moves (start st.mark) st.words) × (s.registers ≡ all_received f A h (map heard_wire st.words))
 
-  abbrev pub AllStretches : Receiving → List Stretch → Type 0
+  abbrev pub AllStretches : ReceiverState → List Stretch → Type 0
   AllStretches s [] = ⊥
   AllStretches s (st ∷ ss) = Present s st × Every Past ss
 
-  pub record ReceiverGood (s : Receiving) (ss : List Stretch) (since : Since Heard) : Type 0 where
+  pub record ReceiverGood (s : ReceiverState) (ss : List Stretch) (since : Since Heard) : Type 0 where
     pub sized : Sized s.registers
     pub followed : AllStretches s ss
     pub start_fits : StartFits since.start

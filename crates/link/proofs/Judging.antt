@@ -5,7 +5,7 @@ use Rattle.std.proofs.lemmas.Slice.Eq.{bytes_eq-Decides}
 use Rattle.std.proofs.lemmas.Bool.{cond_both}
 use Rattle.sss.specs.Cipher.{State, begun, tag, message_tag, opened_message}
 use Rattle.link.specs.Receiving.{decided, verdict_of, with_row, row_after}
-use Rattle.link.specs.Ends.{Receiving}
+use Rattle.link.specs.Ends.{ReceiverState}
 use Rattle.link.specs.Log.{Mark, new, begin, break, finish, Heard, Stretch, heard_wire}
 use Rattle.link.specs.Law.{Judged}
 use Rattle.link.specs.declared.reception.Reception.{Reception}
@@ -91,7 +91,7 @@ module _ (f A : ℕ → ℕ) where
   whole_verdict s nonce words received drawn v at is =
       is ∙ ap (λ (x : Reception). verdict_of (decided x event.Finish).1 received drawn) (at ∙ moves_whole words)
 
-  judged_at : (s : Receiving) (m : Mark) (ws : List Heard) (received : List ℕ) (v : Verdict) → Present f A s (record { mark = m; words = ws }) →
+  judged_at : (s : ReceiverState) (m : Mark) (ws : List Heard) (received : List ℕ) (v : Verdict) → Present f A s (record { mark = m; words = ws }) →
       v ≡ verdict_of (decided s.reception event.Finish).1 received (tag f s.registers) → Judged f A (record { mark = m; words = ws }) received v
   unfolding message_tag opened_message
   judged_at s new ws received v p is =
@@ -110,6 +110,6 @@ module _ (f A : ℕ → ℕ) where
       judged_lost (record { mark = finish; words = ws }) received v
       (lost_verdict s.reception finish ws received (tag f s.registers) v p.4 refl is) (λ n e. let z : ◌≡◌ {A = ℕ} 0 1 = cc in omega arith)
 
-  pub judged : (s : Receiving) (st : Stretch) (received : List ℕ) (v : Verdict) → Present f A s st →
+  pub judged : (s : ReceiverState) (st : Stretch) (received : List ℕ) (v : Verdict) → Present f A s st →
       v ≡ verdict_of (decided s.reception event.Finish).1 received (tag f s.registers) → Judged f A st received v
   judged s st received v p is = judged_at s st.mark st.words received v p is

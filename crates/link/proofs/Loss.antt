@@ -4,7 +4,7 @@ use Rattle.std.specs.List.{AllByRecursion as Every}
 use Rattle.std.proofs.lemmas.Bool.{cond_both}
 use Rattle.sss.specs.Cipher.{State, OneToOne, begun, plain_word, tag, taken, wire_word, drawn_from, sealed_message, opened_message, message_tag}
 use Rattle.link.specs.Receiving.{answer_of, decided, verdict_of}
-use Rattle.link.specs.Ends.{registers_of, Sealing, ready, in_message, Receiving, Ends, sealer_made, receiver_made, made, nonce_taken}
+use Rattle.link.specs.Ends.{registers_of, SealerState, ready, in_message, ReceiverState, Ends, sealer_made, receiver_made, made, nonce_fits}
 use Rattle.link.specs.Log.{Sent, Message, messages, Mark, begin, Heard, Stretch, stretches, Since, sent_since, heard_since, plain_of, wire_of, heard_wire, start_of, sealer_registers, receiver_registers}
 use Rattle.link.specs.Law.{Law, Beginning, Judged, Published, SeventeenSealed, Unbroken, Withholds, heard_wires, latest_17, sent_wires, wires}
 use Rattle.link.specs.declared.reception.Event.TheVariants as event
@@ -43,7 +43,7 @@ use Rattle.link.proofs.Judging.{judged}
 
 -- A tag in the log comes from a finish while a message is open: it is drawn from the registers as they were.
 module _ (f A : ℕ → ℕ) where
-  tag_drawn : (s : Sealing) (x : SealerCall IssuedNonce) (t : List ℕ) (ms : List Message) (since : Since Sent) → OpenAt f A s ms since →
+  tag_drawn : (s : SealerState) (x : SealerCall IssuedNonce) (t : List ℕ) (ms : List Message) (since : Since Sent) → OpenAt f A s ms since →
       (sealer_made f A s x).1 ≡ Finished t →
       ((m : Message) × (earlier : List Message) × (ms ≡ m ∷ earlier) × (since ≡ record { start = Some m.nonce; words = m.words })) ×
       (t ≡ tag f (registers_of s))
@@ -55,19 +55,19 @@ module _ (f A : ℕ → ℕ) where
   tag_drawn (in_message n g) (Begin k) t ms since o e = absurd (let z : ◌≡◌ {A = ℕ} 0 1 = cc in omega arith)
   tag_drawn (in_message n g) (Seal mask p) t ms since o e =
       absurd (cond_both (ltb n 65536) (in_message (n + 1) (taken f A g mask p), Sealed mask p (wire_word f g mask p))
-      (in_message n g, Refused mask p Full) (λ (o : Sealing × SealerEntry). o.1 ≡ Finished t → ⊥)
+      (in_message n g, Refused mask p Full) (λ (o : SealerState × SealerEntry). o.1 ≡ Finished t → ⊥)
       (λ b h. let z : ◌≡◌ {A = ℕ} 0 1 = cc in omega arith) (λ b h. let z : ◌≡◌ {A = ℕ} 0 1 = cc in omega arith) e)
   tag_drawn (in_message n g) Finish t ms since o e = (o, cc)
   tag_drawn (in_message n g) Abandon t ms since o e = absurd (let z : ◌≡◌ {A = ℕ} 0 1 = cc in omega arith)
 
   -- A verdict in the log comes from a finish.
-  verdict_given : (s : Receiving) (x : ReceiverCall) (t : List ℕ) (v : Verdict) → (receiver_made f A s x).1 ≡ Ended t v →
+  verdict_given : (s : ReceiverState) (x : ReceiverCall) (t : List ℕ) (v : Verdict) → (receiver_made f A s x).1 ≡ Ended t v →
       v ≡ verdict_of (decided s.reception event.Finish).1 t (tag f s.registers)
   unfolding receiver_made
   verdict_given s (Hear nonce) t v e =
-      absurd (cond_both (nonce_taken (vec_items nonce))
+      absurd (cond_both (nonce_fits (vec_items nonce))
       (record { reception = Whole; registers = begun f A (vec_items nonce) }, BegunThere nonce)
-      (s, RefusedThere nonce Nonce) (λ (o : Receiving × ReceiverEntry). o.1 ≡ Ended t v → ⊥)
+      (s, RefusedThere nonce Nonce) (λ (o : ReceiverState × ReceiverEntry). o.1 ≡ Ended t v → ⊥)
       (λ b h. let z : ◌≡◌ {A = ℕ} 0 1 = cc in omega arith) (λ b h. let z : ◌≡◌ {A = ℕ} 0 1 = cc in omega arith) e)
   verdict_given s (Take mask m) t v e = absurd (let z : ◌≡◌ {A = ℕ} 0 1 = cc in omega arith)
   verdict_given s Break t v e = absurd (let z : ◌≡◌ {A = ℕ} 0 1 = cc in omega arith)
@@ -81,13 +81,13 @@ module _ (f A : ℕ → ℕ) where
   told_reading HandOut q p e = cc
   told_reading (Withhold n) q p e = absurd (let z : ◌≡◌ {A = ℕ} 0 1 = cc in omega arith)
 
-  reading_given : (s : Receiving) (x : ReceiverCall) (mask wire p : ℕ) → (receiver_made f A s x).1 ≡ Received mask wire (Reading p) →
+  reading_given : (s : ReceiverState) (x : ReceiverCall) (mask wire p : ℕ) → (receiver_made f A s x).1 ≡ Received mask wire (Reading p) →
       p ≡ plain_word f s.registers mask wire
   unfolding receiver_made
   reading_given s (Hear nonce) mask wire p e =
-      absurd (cond_both (nonce_taken (vec_items nonce))
+      absurd (cond_both (nonce_fits (vec_items nonce))
       (record { reception = Whole; registers = begun f A (vec_items nonce) }, BegunThere nonce)
-      (s, RefusedThere nonce Nonce) (λ (o : Receiving × ReceiverEntry). o.1 ≡ Received mask wire (Reading p) → ⊥)
+      (s, RefusedThere nonce Nonce) (λ (o : ReceiverState × ReceiverEntry). o.1 ≡ Received mask wire (Reading p) → ⊥)
       (λ b h. let z : ◌≡◌ {A = ℕ} 0 1 = cc in omega arith) (λ b h. let z : ◌≡◌ {A = ℕ} 0 1 = cc in omega arith) e)
   reading_given s (Take k m) mask wire p e =
       let masks : k ≡ mask = cc in
@@ -99,7 +99,7 @@ module _ (f A : ℕ → ℕ) where
   reading_given s (End t) mask wire p e = absurd (let z : ◌≡◌ {A = ℕ} 0 1 = cc in omega arith)
 
   -- The latest stretch, which the receiver is in.
-  latest : (s : Receiving) (ss : List Stretch) → AllStretches f A s ss →
+  latest : (s : ReceiverState) (ss : List Stretch) → AllStretches f A s ss →
       (st : Stretch) × (others : List Stretch) × (ss ≡ st ∷ others) × Present f A s st
   latest s [] h = absurd h
   latest s (st ∷ ss) h = (st, ss, refl, h.0)
@@ -160,7 +160,7 @@ module _ (f A : ℕ → ℕ) (onef : OneToOne f) (oneA : OneToOne A) where
     stretch : Stretch
     others : List Stretch
     latest_is : stretches before ≡ stretch ∷ others
-    receiver : Receiving
+    receiver : ReceiverState
     present : Present f A receiver stretch
     registers : receiver_registers f A before ≡ receiver.registers
     given : v ≡ verdict_of (decided receiver.reception event.Finish).1 t (tag f receiver.registers)

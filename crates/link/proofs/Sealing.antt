@@ -6,14 +6,14 @@ use Rattle.std.proofs.lemmas.Bool.{cond_both}
 use Rattle.sss.specs.Cipher.{State, Word, OneToOne, taken, wire_word, all_taken, wire_words}
 use Rattle.sss.specs.declared.Fault.TheVariants.{Full}
 use Rattle.link.specs.Issuing.{low_bytes, nonce_bytes}
-use Rattle.link.specs.Ends.{Sealing, ready, in_message, sealer_made, SealerCallFits}
+use Rattle.link.specs.Ends.{SealerState, ready, in_message, sealer_made, SealerCallFits}
 use Rattle.link.specs.Log.{Sent, Message, sent_too, message_noted, Since, one_more, sent_noted, plain_of, wire_of, start_of}
 use Rattle.link.specs.declared.issuer.Nonce.{Nonce}
 use Rattle.link.specs.declared.call.SealerCall.{SealerCall}
 use Rattle.link.specs.declared.issuer.Nonce.{Nonce}
 use Rattle.link.specs.declared.call.SealerCall.TheVariants.{Begin, Word as Seal, Finish, Abandon}
 use Rattle.link.specs.declared.call.SealerEntry.{SealerEntry}
-use Rattle.link.specs.declared.call.SealerEntry.TheVariants as sealer_entry
+use Rattle.link.specs.declared.call.SealerEntry.TheVariants as sealer
 use Rattle.link.proofs.Every.{every_joined}
 use Rattle.link.proofs.Received.{received, all_received, received_wire, all_received_push, taken_sized, wire_is_word, zeroed_sized, begun_sized}
 use Rattle.link.proofs.Invariants.{Bytes, SealedFrom, SealedMessage, SealerGood}
@@ -99,7 +99,7 @@ module _ (f A : ℕ → ℕ) (onef : OneToOne f) (oneA : OneToOne A) where
       }
 
   -- What holds of the sealer holds after each call on it.
-  pub sealer_keeps : (s : Sealing) (ms : List Message) (since : Since Sent) (x : SealerCall Nonce) → SealerCallFits x → SealerGood f A s ms since →
+  pub sealer_keeps : (s : SealerState) (ms : List Message) (since : Since Sent) (x : SealerCall Nonce) → SealerCallFits x → SealerGood f A s ms since →
       (let o = sealer_made f A s x in SealerGood f A o.0 (message_noted o.1 ms) (sent_noted since o.1))
   unfolding sealer_made all_received
   sealer_keeps (ready g) ms since (Begin n) fits h =
@@ -117,9 +117,9 @@ module _ (f A : ℕ → ℕ) (onef : OneToOne f) (oneA : OneToOne A) where
   sealer_keeps (ready g) ms since Abandon fits h = h
   sealer_keeps (in_message n g) ms since (Begin k) fits h = h
   sealer_keeps (in_message n g) ms since (Seal mask p) fits h =
-      cond_both (ltb n 65536) (in_message (n + 1) (taken f A g mask p), sealer_entry.Sealed mask p (wire_word f g mask p))
-      (in_message n g, sealer_entry.Refused mask p Full)
-      (λ (o : Sealing × SealerEntry). SealerGood f A o.0 (message_noted o.1 ms) (sent_noted since o.1))
+      cond_both (ltb n 65536) (in_message (n + 1) (taken f A g mask p), sealer.Sealed mask p (wire_word f g mask p))
+      (in_message n g, sealer.Refused mask p Full)
+      (λ (o : SealerState × SealerEntry). SealerGood f A o.0 (message_noted o.1 ms) (sent_noted since o.1))
       (λ e. word_keeps n g ms since mask p fits h) (λ e. h)
   sealer_keeps (in_message n g) ms since Finish fits h =
       record { sized = zeroed_sized; sealed = h.sealed; start_fits = tt; since_sealed = tt; reached = refl; is_open = tt }

@@ -5,6 +5,9 @@ use Rattle.sss.specs.Cipher.{State, Word, begun, plain_word, tag, taken, wire_wo
 use Rattle.sss.specs.declared.Fault.TheVariants.{Nonce as UnfitNonce, Full}
 use Rattle.link.specs.Issuing.{nonce_bytes}
 use Rattle.link.specs.Receiving.{decided, answer_of, verdict_of, Released, Given}
+use Rattle.sss.specs.declared.keyed.KeyedFunction.{Ghosts as Keyed}
+use Rattle.sss.specs.declared.coefficient.Coefficient.{Ghosts as Coefficient}
+use Rattle.link.specs.Engines.{Worked}
 use Rattle.link.specs.declared.engine.Engine.{Engine}
 use Rattle.link.specs.declared.issuer.Nonce.{Nonce}
 use Rattle.link.specs.declared.call.SealerCall.{SealerCall}
@@ -16,9 +19,9 @@ use Rattle.link.specs.declared.call.Call.TheVariants.{OnSealer, OnReceiver}
 use Rattle.link.specs.declared.call.Entry.{Entry}
 use Rattle.link.specs.declared.call.Entry.TheVariants.{OfSealer, OfReceiver}
 use Rattle.link.specs.declared.call.SealerEntry.{SealerEntry}
-use Rattle.link.specs.declared.call.SealerEntry.TheVariants as sealer_entry
+use Rattle.link.specs.declared.call.SealerEntry.TheVariants as sealer
 use Rattle.link.specs.declared.call.ReceiverEntry.{ReceiverEntry}
-use Rattle.link.specs.declared.call.ReceiverEntry.TheVariants as receiver_entry
+use Rattle.link.specs.declared.call.ReceiverEntry.TheVariants as receiver
 use Rattle.link.specs.declared.reception.Reception.{Reception}
 use Rattle.link.specs.declared.reception.Reception.TheVariants.{Lost, Whole}
 use Rattle.link.specs.declared.reception.Event.TheVariants as event
@@ -27,27 +30,27 @@ use Rattle.link.specs.declared.ends.Sealer.{Sealer}
 use Rattle.link.specs.declared.ends.Sealer.TheVariants.{Ready, Open}
 
 -- A sealer is ready, or has a message open of so many words.
-pub data Sealing : Type 0 where
-  ready : State → Sealing
-  in_message : ℕ → State → Sealing
+pub data SealerState : Type 0 where
+  ready : State → SealerState
+  in_message : ℕ → State → SealerState
 
 -- Its registers, open or not.
-abbrev pub registers_of : Sealing → State
+abbrev pub registers_of : SealerState → State
 registers_of (ready g) = g
 registers_of (in_message n g) = g
 
 -- A receiver by its state and its registers.
-pub record Receiving : Type 0 where
+pub record ReceiverState : Type 0 where
   pub reception : Reception
   pub registers : State
 
 -- The sealer of the code by its state and registers.
-abbrev pub sealing : {K C : Type 0} → Sealer K C → Sealing
+abbrev pub sealing : {K C : Type 0} → Sealer K C → SealerState
 sealing (Ready s) = ready s.engine.registers
 sealing (Open m) = in_message m.words m.engine.registers
 
 -- The receiver of the code by its state and registers.
-abbrev pub receiving : {K C : Type 0} → Receiver K C → Receiving
+abbrev pub receiving : {K C : Type 0} → Receiver K C → ReceiverState
 receiving r = record { reception = r.footing.reception; registers = r.engine.registers }
 
 -- How many words the open message of the code's sealer has, if one is open.
@@ -61,52 +64,52 @@ sealer_engine (Ready s) = s.engine
 sealer_engine (Open m) = m.engine
 
 -- A call on the sealer: where it then stands, and what the log notes.
-unfoldable pub sealer_made : (ℕ → ℕ) → (ℕ → ℕ) → Sealing → SealerCall Nonce → Sealing × SealerEntry
-sealer_made f A (ready g) (Begin n) = (in_message 0 (begun f A (nonce_bytes n)), sealer_entry.Begun (nonce_bytes n))
-sealer_made f A (ready g) (Seal mask p) = (ready g, sealer_entry.OutOfTurn (Seal mask p))
-sealer_made f A (ready g) Finish = (ready g, sealer_entry.OutOfTurn Finish)
-sealer_made f A (ready g) Abandon = (ready g, sealer_entry.OutOfTurn Abandon)
-sealer_made f A (in_message n g) (Begin k) = (in_message n g, sealer_entry.OutOfTurn (Begin (nonce_bytes k)))
+unfoldable pub sealer_made : (ℕ → ℕ) → (ℕ → ℕ) → SealerState → SealerCall Nonce → SealerState × SealerEntry
+sealer_made f A (ready g) (Begin n) = (in_message 0 (begun f A (nonce_bytes n)), sealer.Begun (nonce_bytes n))
+sealer_made f A (ready g) (Seal mask p) = (ready g, sealer.OutOfTurn (Seal mask p))
+sealer_made f A (ready g) Finish = (ready g, sealer.OutOfTurn Finish)
+sealer_made f A (ready g) Abandon = (ready g, sealer.OutOfTurn Abandon)
+sealer_made f A (in_message n g) (Begin k) = (in_message n g, sealer.OutOfTurn (Begin (nonce_bytes k)))
 sealer_made f A (in_message n g) (Seal mask p) =
-    cond (nat_lt n 65536) (in_message (n + 1) (taken f A g mask p), sealer_entry.Sealed mask p (wire_word f g mask p))
-    (in_message n g, sealer_entry.Refused mask p Full)
-sealer_made f A (in_message n g) Finish = (ready zeroed, sealer_entry.Finished (tag f g))
-sealer_made f A (in_message n g) Abandon = (ready zeroed, sealer_entry.Abandoned)
+    cond (nat_lt n 65536) (in_message (n + 1) (taken f A g mask p), sealer.Sealed mask p (wire_word f g mask p))
+    (in_message n g, sealer.Refused mask p Full)
+sealer_made f A (in_message n g) Finish = (ready zeroed, sealer.Finished (tag f g))
+sealer_made f A (in_message n g) Abandon = (ready zeroed, sealer.Abandoned)
 
 -- Whether nonce bytes are taken: an even number of them, at most 32.
-abbrev pub nonce_taken : List ℕ → Bool
-nonce_taken bytes = length bytes % 2 == 0 && nat_le (length bytes) 32
+abbrev pub nonce_fits : List ℕ → Bool
+nonce_fits bytes = length bytes % 2 == 0 && nat_le (length bytes) 32
 
 -- A call on the receiver: where it then stands, and what the log notes.
-unfoldable pub receiver_made : (ℕ → ℕ) → (ℕ → ℕ) → Receiving → ReceiverCall → Receiving × ReceiverEntry
+unfoldable pub receiver_made : (ℕ → ℕ) → (ℕ → ℕ) → ReceiverState → ReceiverCall → ReceiverState × ReceiverEntry
 receiver_made f A s (Hear nonce) =
-    cond (nonce_taken (vec_items nonce))
-    (record { reception = Whole; registers = begun f A (vec_items nonce) }, receiver_entry.Begun nonce)
-    (s, receiver_entry.Refused nonce UnfitNonce)
+    cond (nonce_fits (vec_items nonce))
+    (record { reception = Whole; registers = begun f A (vec_items nonce) }, receiver.Begun nonce)
+    (s, receiver.Refused nonce UnfitNonce)
 receiver_made f A s (Take mask m) =
     let p : ℕ = plain_word f s.registers mask m in
     let d = decided s.reception (event.Word mask) in
-    (record { reception = d.0; registers = taken f A s.registers mask p }, receiver_entry.Received mask m (answer_of d.1 p))
-receiver_made f A s Break = (record { reception = Lost 0; registers = s.registers }, receiver_entry.BrokenOff)
+    (record { reception = d.0; registers = taken f A s.registers mask p }, receiver.Received mask m (answer_of d.1 p))
+receiver_made f A s Break = (record { reception = Lost 0; registers = s.registers }, receiver.BrokenOff)
 receiver_made f A s (End t) = (
   record { reception = Lost 0; registers = zeroed },
-  receiver_entry.Finished t (verdict_of (decided s.reception event.Finish).1 t (tag f s.registers)),
+  receiver.Finished t (verdict_of (decided s.reception event.Finish).1 t (tag f s.registers)),
 )
 
 -- What an entry of the receiver says whatever the keyed function answers: where the receiver then stands, whether a word was handed out, the
 -- row of one that was not, and whether a verdict is broken.
 abbrev pub Leads : Reception → ReceiverEntry → Reception → Type 0
-Leads s (receiver_entry.Begun nonce) s' = s' ≡ Whole
-Leads s (receiver_entry.Refused nonce fault) s' = s' ≡ s
-Leads s (receiver_entry.Received mask wire answer) s' =
+Leads s (receiver.Begun nonce) s' = s' ≡ Whole
+Leads s (receiver.Refused nonce fault) s' = s' ≡ s
+Leads s (receiver.Received mask wire answer) s' =
     (s' ≡ (decided s (event.Word mask)).0) × Released (decided s (event.Word mask)).1 answer
-Leads s receiver_entry.BrokenOff s' = s' ≡ Lost 0
-Leads s (receiver_entry.Finished tag verdict) s' = (s' ≡ Lost 0) × Given (decided s event.Finish).1 verdict
+Leads s receiver.BrokenOff s' = s' ≡ Lost 0
+Leads s (receiver.Finished tag verdict) s' = (s' ≡ Lost 0) × Given (decided s event.Finish).1 verdict
 
 -- Both ends.
 pub record Ends : Type 0 where
-  pub sealer : Sealing
-  pub receiver : Receiving
+  pub sealer : SealerState
+  pub receiver : ReceiverState
 
 -- Both ends as they are new: the sealer ready, the receiver lost with row 0, all registers zero.
 abbrev pub new_ends : Ends
@@ -147,3 +150,14 @@ ReceiverCallFits (End t) = Unit {0}
 abbrev pub CallFits : Call → Type 0
 CallFits (OnSealer x) = SealerCallFits x
 CallFits (OnReceiver x) = ReceiverCallFits x
+
+-- A call on either end of the code, as far as it follows from the maps on words that its function and its coefficient mean: where the end then
+-- stands, and what the log notes.
+module _ {K C : Type 0} (F : Keyed K) (L : Coefficient C) where
+  abbrev pub SealerMakes : Sealer K C → SealerCall Nonce → SealerEntry → Sealer K C → Type 0
+  SealerMakes before call entry after =
+      Worked F L (sealer_engine before) (sealer_engine after) (λ f A. (sealing after, entry) ≡ sealer_made f A (sealing before) call)
+
+  abbrev pub ReceiverMakes : Receiver K C → ReceiverCall → ReceiverEntry → Receiver K C → Type 0
+  ReceiverMakes before call entry after =
+      Worked F L before.engine after.engine (λ f A. (receiving after, entry) ≡ receiver_made f A (receiving before) call)

@@ -4,7 +4,7 @@ use Rattle.sss.specs.Cipher.{begun, plain_word, tag, taken, zeroed}
 use Rattle.sss.specs.Outcomes.{TakesNonce}
 use Rattle.sss.specs.declared.Fault.{Fault}
 use Rattle.sss.specs.declared.keyed.KeyedFunction.{Ghosts as Keyed}
-use Rattle.sss.specs.declared.coefficient.Coefficient.{Ghosts as Linear}
+use Rattle.sss.specs.declared.coefficient.Coefficient.{Ghosts as Coefficient}
 use Rattle.link.specs.Engines.{Worked}
 use Rattle.link.specs.Receiving.{Given, Released, answer_of, decided, verdict_of}
 use Rattle.link.specs.declared.receiver.Receiver.{Receiver}
@@ -14,7 +14,7 @@ use Rattle.link.specs.declared.reception.Reception.TheVariants.{Lost, Whole}
 use Rattle.link.specs.declared.reception.Verdict.{Verdict}
 
 -- A begin that is taken: the receiver is whole, with the registers of the nonce.
-pub record Begun {K C : Type 0} (F : Keyed K) (L : Linear C) (before : Receiver K C) (nonce : List ℕ) (after : Receiver K C) : Type 0 where
+pub record Begun {K C : Type 0} (F : Keyed K) (L : Coefficient C) (before : Receiver K C) (nonce : List ℕ) (after : Receiver K C) : Type 0 where
   pub reception : after.footing.reception ≡ Whole
   pub worked : Worked F L before.engine after.engine (λ f A. after.engine.registers ≡ begun f A nonce)
 
@@ -24,12 +24,12 @@ pub record Unchanged {K C : Type 0} (before after : Receiver K C) : Type 0 where
   pub footing : after.footing ≡ before.footing
 
 -- A nonce that does not fit is refused, and nothing is changed.
-abbrev pub Begins : {K C : Type 0} → Keyed K → Linear C → Receiver K C → List ℕ → Result (Unit {0}) Fault → Receiver K C → Type 0
+abbrev pub Begins : {K C : Type 0} → Keyed K → Coefficient C → Receiver K C → List ℕ → Result (Unit {0}) Fault → Receiver K C → Type 0
 Begins F L before nonce r after = TakesNonce nonce (λ _. Begun F L before nonce after) (Unchanged before after) r
 
 -- A word is taken into both registers as the published cipher does it, whatever the state. State and mask decide where the receiver then
 -- stands and whether its reading is handed out or withheld, and with which row: that holds whatever the keyed function answers.
-pub record TakesWord {K C : Type 0} (F : Keyed K) (L : Linear C) (before : Receiver K C) (mask wire : ℕ) (answer : Answer) (after : Receiver K C) : Type 0 where
+pub record TakesWord {K C : Type 0} (F : Keyed K) (L : Coefficient C) (before : Receiver K C) (mask wire : ℕ) (answer : Answer) (after : Receiver K C) : Type 0 where
   pub worked : Worked F L before.engine after.engine (λ f A.
       (answer ≡ answer_of (decided before.footing.reception (Word mask)).1 (plain_word f before.engine.registers mask wire)) ×
       (after.engine.registers ≡ taken f A before.engine.registers mask (plain_word f before.engine.registers mask wire)))
@@ -38,7 +38,7 @@ pub record TakesWord {K C : Type 0} (F : Keyed K) (L : Linear C) (before : Recei
 
 -- A finish: the verdict on the tag received where the published one is drawn, and whether it is broken, whatever the keyed function answers.
 -- The receiver is then lost with row 0, its registers zero.
-pub record Finishes {K C : Type 0} (F : Keyed K) (L : Linear C) (before : Receiver K C) (received : List ℕ) (verdict : Verdict) (after : Receiver K C) : Type 0 where
+pub record Finishes {K C : Type 0} (F : Keyed K) (L : Coefficient C) (before : Receiver K C) (received : List ℕ) (verdict : Verdict) (after : Receiver K C) : Type 0 where
   pub worked : Worked F L before.engine after.engine (λ f _.
       verdict ≡ verdict_of (decided before.footing.reception Finish).1 received (tag f before.engine.registers))
   pub given : Given (decided before.footing.reception Finish).1 verdict

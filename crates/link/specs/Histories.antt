@@ -5,7 +5,7 @@ use Rattle.std.specs.List.{AllByRecursion as Every}
 use Rattle.std.specs.declared.alloc.Global.{Global}
 use Rattle.sss.specs.Asked.{Keeps}
 use Rattle.sss.specs.declared.keyed.KeyedFunction.{Ghosts as Keyed}
-use Rattle.sss.specs.declared.coefficient.Coefficient.{Ghosts as Linear}
+use Rattle.sss.specs.declared.coefficient.Coefficient.{Ghosts as Coefficient}
 use Rattle.link.specs.Ends.{Ends, Leads, history, one_call, receiving, registers_of, sealer_engine, sealing, words_open}
 use Rattle.link.specs.Noting.{NotesAll, NotesReceiver, NotesSealer, open_then}
 use Rattle.link.specs.Log.{stretches}
@@ -21,6 +21,13 @@ module _ {SK SC RK RC : Type 0} where
   -- Where both ends of a history stand, and its log.
   abbrev pub after : History SK SC RK RC → Ends × List Entry
   after h = (record { sealer = sealing h.sealer; receiver = receiving h.receiver }, vec_items h.log)
+
+  -- What the sealer of a history works with, and what its receiver works with.
+  abbrev pub sealer_with : History SK SC RK RC → SK × SC
+  sealer_with h = ((sealer_engine h.sealer).function, (sealer_engine h.sealer).coefficient)
+
+  abbrev pub receiver_with : History SK SC RK RC → RK × RC
+  receiver_with h = (h.receiver.engine.function, h.receiver.engine.coefficient)
 
   -- The log has one entry more, and no less room than it had.
   pub record OneLonger (log : Vec Entry Global) (h : History SK SC RK RC) : Type 0 where
@@ -50,13 +57,13 @@ module _ {SK SC RK RC : Type 0} where
   abbrev pub WithheldExactly : History SK SC RK RC → Type 0
   WithheldExactly h = Every Withholds (stretches (vec_items h.log))
 
-  module _ (F : Keyed SK) (L : Linear SC) (G : Keyed RK) (M : Linear RC) where
-    -- The functions of two histories mean the same, and their coefficients are the same.
-    pub record SameMeaning (s : SK) (a : SC) (r : RK) (b : RC) (h : History SK SC RK RC) : Type 0 where
-      pub sealer : Keeps F s (sealer_engine h.sealer).function
-      pub sealer_same : (sealer_engine h.sealer).coefficient ≡ a
-      pub receiver : Keeps G r h.receiver.engine.function
-      pub receiver_same : h.receiver.engine.coefficient ≡ b
+  module _ (F : Keyed SK) (L : Coefficient SC) (G : Keyed RK) (M : Coefficient RC) where
+    -- The functions of a history mean what these mean, each of which an end works with, and its coefficients are these.
+    pub record SameMeaning (s : SK × SC) (r : RK × RC) (h : History SK SC RK RC) : Type 0 where
+      pub sealer : Keeps F s.0 (sealer_engine h.sealer).function
+      pub sealer_same : (sealer_engine h.sealer).coefficient ≡ s.1
+      pub receiver : Keeps G r.0 h.receiver.engine.function
+      pub receiver_same : h.receiver.engine.coefficient ≡ r.1
 
     -- One call more, where both functions are sound.
     abbrev pub OneMore : History SK SC RK RC → Call → History SK SC RK RC → Type 0

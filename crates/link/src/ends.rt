@@ -1,8 +1,7 @@
 //! Either end of a link by its calls: whatever the state and the call, one answer for the log.
-ghost use Rattle.std.specs.Prelude.{◌≡◌};
-ghost use Rattle.link.specs.Ends.{Leads, ReceiverCallFits, SealerCallFits, in_message, ready, receiver_made, receiving, sealer_engine, sealer_made, sealing, words_open};
+ghost use Rattle.std.specs.Prelude.{◌≡◌, None, Some};
+ghost use Rattle.link.specs.Ends.{Leads, ReceiverCallFits, ReceiverMakes, SealerCallFits, SealerMakes, words_open};
 ghost use Rattle.link.specs.Noting.{NotesReceiver, NotesSealer, open_then};
-ghost use Rattle.link.specs.Engines.{Worked};
 
 use crate::call::{ReceiverCall, ReceiverEntry, SealerCall, SealerEntry, Unmade};
 use crate::receiver::Receiver;
@@ -19,7 +18,7 @@ pub enum Sealer<K, C> {
 impl<K: KeyedFunction, C: Coefficient> ReadySealer<K, C> {
     /// Makes a call. Any but a begin is out of turn, and not made.
     fn take(self, call: SealerCall) -> (Sealer<K, C>, SealerEntry)
-        ensures made { Worked K.KeyedFunction C.Coefficient self.engine (sealer_engine result.0) (λ f A. (sealing result.0, result.1) ≡ sealer_made f A (ready self.engine.registers) call) }
+        ensures made { SealerMakes K.KeyedFunction C.Coefficient (Sealer.Ready self) call result.1 result.0 }
         ensures noted { NotesSealer None call result.1 }
         ensures turn { words_open result.0 ≡ open_then None result.1 }
         ensures fits { SealerCallFits call }
@@ -40,7 +39,7 @@ impl<K: KeyedFunction, C: Coefficient> ReadySealer<K, C> {
 impl<K: KeyedFunction, C: Coefficient> OpenMessage<K, C> {
     /// Makes a call. A begin is out of turn, and not made.
     fn take(mut self, call: SealerCall) -> (Sealer<K, C>, SealerEntry)
-        ensures made { Worked K.KeyedFunction C.Coefficient self.engine (sealer_engine result.0) (λ f A. (sealing result.0, result.1) ≡ sealer_made f A (in_message self.words self.engine.registers) call) }
+        ensures made { SealerMakes K.KeyedFunction C.Coefficient (Sealer.Open self) call result.1 result.0 }
         ensures noted { NotesSealer (Some self.words) call result.1 }
         ensures turn { words_open result.0 ≡ open_then (Some self.words) result.1 }
         ensures fits { SealerCallFits call }
@@ -69,7 +68,7 @@ impl<K: KeyedFunction, C: Coefficient> OpenMessage<K, C> {
 impl<K: KeyedFunction, C: Coefficient> Sealer<K, C> {
     /// Makes a call. A begin while a message is open, and any other call while none is, is out of turn and not made.
     pub fn take(self, call: SealerCall) -> (Self, SealerEntry)
-        ensures made { Worked K.KeyedFunction C.Coefficient (sealer_engine self) (sealer_engine result.0) (λ f A. (sealing result.0, result.1) ≡ sealer_made f A (sealing self) call) }
+        ensures made { SealerMakes K.KeyedFunction C.Coefficient self call result.1 result.0 }
         ensures noted { NotesSealer (words_open self) call result.1 }
         ensures turn { words_open result.0 ≡ open_then (words_open self) result.1 }
         ensures fits { SealerCallFits call }
@@ -84,7 +83,7 @@ impl<K: KeyedFunction, C: Coefficient> Sealer<K, C> {
 impl<K: KeyedFunction, C: Coefficient> Receiver<K, C> {
     /// Makes a call.
     pub fn take(&mut self, call: ReceiverCall) -> ReceiverEntry
-        ensures made { Worked K.KeyedFunction C.Coefficient self.old.engine self.new.engine (λ f A. (receiving self.new, result) ≡ receiver_made f A (receiving self.old) call) }
+        ensures made { ReceiverMakes K.KeyedFunction C.Coefficient self.old call result self.new }
         ensures noted { NotesReceiver call result }
         ensures leads { Leads self.old.footing.reception result self.new.footing.reception }
         ensures fits { ReceiverCallFits call }

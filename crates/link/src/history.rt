@@ -1,7 +1,7 @@
 //! Histories: a list of calls on two new ends, and the law of a loss, which holds of every one.
 ghost use Rattle.std.specs.Prelude.{◌<◌, ◌≤◌, IfOk, vec_len, vec_capacity, MatchResult, OnErr};
-ghost use Rattle.link.specs.Ends.{CallFits, sealer_engine};
-ghost use Rattle.link.specs.Histories.{IsHistory, NotesCalls, ObeysLaw, OneEntry, OneLonger, OneMore, SameMeaning, WithheldExactly};
+ghost use Rattle.link.specs.Ends.{CallFits};
+ghost use Rattle.link.specs.Histories.{IsHistory, NotesCalls, ObeysLaw, OneEntry, OneLonger, OneMore, SameMeaning, WithheldExactly, receiver_with, sealer_with};
 
 use crate::call::{Call, Entry};
 use crate::ends::Sealer;
@@ -28,7 +28,7 @@ where
     /// One call more. An `Err` comes only where the log is full and finds no more memory.
     fn take(self, call: Call) -> Result<Self, AllocError>
         ensures value { IfOk result (OneMore SK.KeyedFunction SC.Coefficient RK.KeyedFunction RC.Coefficient self call) }
-        ensures meaning { IfOk result (SameMeaning SK.KeyedFunction SC.Coefficient RK.KeyedFunction RC.Coefficient (sealer_engine self.sealer).function (sealer_engine self.sealer).coefficient self.receiver.engine.function self.receiver.engine.coefficient) }
+        ensures meaning { IfOk result (SameMeaning SK.KeyedFunction SC.Coefficient RK.KeyedFunction RC.Coefficient (sealer_with self) (receiver_with self)) }
         ensures entry { IfOk result (OneEntry self call) }
         ensures fits { CallFits call }
         ensures room { MatchResult result (OneLonger self.log) (λ _. vec_capacity self.log ≤ vec_len self.log) }
@@ -79,7 +79,7 @@ where
     ensures law { IfOk result (ObeysLaw SK.KeyedFunction SC.Coefficient RK.KeyedFunction RC.Coefficient sealer receiver) }
     ensures noted { IfOk result (NotesCalls calls.items) }
     ensures withheld { IfOk result WithheldExactly }
-    ensures meaning { IfOk result (SameMeaning SK.KeyedFunction SC.Coefficient RK.KeyedFunction RC.Coefficient sealer.0 sealer.1 receiver.0 receiver.1) }
+    ensures meaning { IfOk result (SameMeaning SK.KeyedFunction SC.Coefficient RK.KeyedFunction RC.Coefficient sealer receiver) }
     ensures room { OnErr result (vec_capacity log < vec_len calls) }
 {
     log.clear();

@@ -2,7 +2,7 @@ use Rattle.std.proofs.Common.{vec_items, sym, ap, ◌∙◌, subst}
 use Rattle.sss.specs.Cipher.{NonceFits, begun}
 use Rattle.link.specs.Ends.{receiver_made}
 use Rattle.link.specs.declared.call.ReceiverEntry.TheVariants.{Begun, Refused, Received, BrokenOff, Finished}
-use Rattle.link.proofs.Calls.{nonce_taken_true, nonce_taken_false}
+use Rattle.link.proofs.Calls.{nonce_fits_true, nonce_fits_false}
 use Rattle.link.proofs.Engines.{not_worked, worked_so}
 use Rattle.link.proofs.receiver.Receiver.take.Goals as goal
 
@@ -12,7 +12,7 @@ returns-in-Ok-clause-made g c =
     let nonce = c.in-Begin.nonce in
     let bytes = c.deref.ensures.value in
     let said = c.in-Ok.ensures.value in
-    rw (c.in-Begin.is, nonce_taken_true (vec_items nonce) (subst NonceFits bytes said.0)) (worked_so said.1.worked (λ f A begin i. (
+    rw (c.in-Begin.is, nonce_fits_true (vec_items nonce) (subst NonceFits bytes said.0)) (worked_so said.1.worked (λ f A begin i. (
       record { reception = said.1.reception i; registers = (begin ∙ ap (begun f A) bytes) i },
       Begun nonce,
     )))
@@ -24,7 +24,7 @@ returns-in-Err-clause-made g c =
     let bytes = c.deref.ensures.value in
     let said = c.in-Err.ensures.value in
     let engine = said.2.engine in
-    rw (c.in-Begin.is, nonce_taken_false (vec_items nonce) (λ fits. said.0 (subst NonceFits (sym bytes) fits)))
+    rw (c.in-Begin.is, nonce_fits_false (vec_items nonce) (λ fits. said.0 (subst NonceFits (sym bytes) fits)))
     (not_worked (ap (λ e. e.function) engine) (ap (λ e. e.coefficient) engine) (λ f A i. (
       record { reception = (said.2.footing i).reception; registers = (engine i).registers },
       Refused nonce (said.1 i),
