@@ -132,7 +132,7 @@ one_call f A f' A' h x = let o = made f A f' A' h.0 x in (o.0, h.1 ++ o.1 ∷ []
 unfoldable pub history : (f A f' A' : ℕ → ℕ) → List Call → Ends × List Entry
 history f A f' A' calls = fold (one_call f A f' A') (new_ends, []) calls
 
--- The numbers of a call fit their types: a plaintext is a word.
+-- The plaintext of a call is a word, as its type says; of its mask nothing is needed.
 abbrev pub SealerCallFits : SealerCall Nonce → Type 0
 SealerCallFits (Begin n) = Unit {0}
 SealerCallFits (Seal mask p) = Word p

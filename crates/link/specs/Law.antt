@@ -12,8 +12,8 @@ use Rattle.link.specs.declared.reception.Verdict.{Verdict}
 use Rattle.link.specs.declared.reception.Verdict.TheVariants.{Agrees, Broken}
 use Rattle.link.specs.declared.call.Entry.{Entry}
 use Rattle.link.specs.declared.call.Entry.TheVariants.{OfSealer, OfReceiver}
-use Rattle.link.specs.declared.call.SealerEntry.TheVariants.{Finished}
-use Rattle.link.specs.declared.call.ReceiverEntry.TheVariants.{Received, Finished as Ended}
+use Rattle.link.specs.declared.call.SealerEntry.TheVariants as sealer
+use Rattle.link.specs.declared.call.ReceiverEntry.TheVariants as receiver
 
 -- What the log held at some moment of the run: a beginning of it.
 abbrev pub Beginning : List Entry → List Entry → Type 0
@@ -141,7 +141,7 @@ pub record Unbroken (log : List Entry) : Type 0 where
   pub sealer_before : List Entry
   pub sealer_later : List Entry
   pub sent_tag : List ℕ
-  pub sealer_finished : log ≡ sealer_before ++ OfSealer (Finished sent_tag) ∷ sealer_later
+  pub sealer_finished : log ≡ sealer_before ++ OfSealer (sealer.Finished sent_tag) ∷ sealer_later
   pub message : Message
   pub earlier : List Message
   pub message_is : messages sealer_before ≡ message ∷ earlier
@@ -149,7 +149,7 @@ pub record Unbroken (log : List Entry) : Type 0 where
   pub receiver_later : List Entry
   pub heard_tag : List ℕ
   pub verdict : Verdict
-  pub receiver_finished : log ≡ receiver_before ++ OfReceiver (Ended heard_tag verdict) ∷ receiver_later
+  pub receiver_finished : log ≡ receiver_before ++ OfReceiver (receiver.Finished heard_tag verdict) ∷ receiver_later
   pub stretch : Stretch
   pub others : List Stretch
   pub stretch_is : stretches receiver_before ≡ stretch ∷ others
@@ -181,10 +181,10 @@ JudgedLatest f A before tag verdict =
     (s : Stretch) × (others : List Stretch) × (stretches before ≡ s ∷ others) × Judged f A s tag verdict
 
 -- The law, for a log and the registers that the two ends have at its end.
-pub record Law (f A : ℕ → ℕ) (log : List Entry) (sealer receiver : State) : Type 0 where
+pub record Law (f A : ℕ → ℕ) (log : List Entry) (at_sealer at_receiver : State) : Type 0 where
   -- 1. The registers of each end are those that its words since its latest reset define.
-  pub of_sealer : sealer ≡ sealer_registers f A log
-  pub of_receiver : receiver ≡ receiver_registers f A log
+  pub of_sealer : at_sealer ≡ sealer_registers f A log
+  pub of_receiver : at_receiver ≡ receiver_registers f A log
   -- 2. At any moment of the sealer and at any of the receiver: where the latest seventeen words since the latest reset were sealed at both
   -- ends, the cipher registers are equal exactly when those seventeen wire words are equal in order.
   pub in_step : (sent heard : List Entry) → Beginning log sent → Beginning log heard →
@@ -207,14 +207,14 @@ pub record Law (f A : ℕ → ℕ) (log : List Entry) (sealer receiver : State) 
   -- 6. Wire words and tags are those of the published cipher, and each reading is what it makes of the wire word after the words received
   -- before.
   pub published : Every (Published f A) (messages log)
-  pub published_tags : (before later : List Entry) (tag : List ℕ) → log ≡ before ++ OfSealer (Finished tag) ∷ later → PublishedTag f A before tag
+  pub published_tags : (before later : List Entry) (tag : List ℕ) → log ≡ before ++ OfSealer (sealer.Finished tag) ∷ later → PublishedTag f A before tag
   pub published_readings : (before later : List Entry) (mask wire p : ℕ) →
-      log ≡ before ++ OfReceiver (Received mask wire (Reading p)) ∷ later → p ≡ plain_word f (receiver_registers f A before) mask wire
+      log ≡ before ++ OfReceiver (receiver.Received mask wire (Reading p)) ∷ later → p ≡ plain_word f (receiver_registers f A before) mask wire
   -- A message that is received as it was sent is read as it was given, and the tag that agrees is the one that was sent. Each verdict is the
   -- one that the tag deserves.
   pub comes_back : (s : Stretch) → Contains (stretches log) s → (m : Message) → Contains (messages log) m → s.mark ≡ begin m.nonce →
       map heard_wire s.words ≡ map wire_of m.words → map (λ w. w.answer) s.words ≡ map (λ w. Reading w.plain) m.words
   pub tag_agrees : (u : Unbroken log) → map heard_wire u.stretch.words ≡ map wire_of u.message.words →
       (u.verdict ≡ Agrees) ↔ (u.heard_tag ≡ u.sent_tag)
-  pub verdicts : (before later : List Entry) (tag : List ℕ) (verdict : Verdict) → log ≡ before ++ OfReceiver (Ended tag verdict) ∷ later →
+  pub verdicts : (before later : List Entry) (tag : List ℕ) (verdict : Verdict) → log ≡ before ++ OfReceiver (receiver.Finished tag verdict) ∷ later →
       JudgedLatest f A before tag verdict

@@ -7,9 +7,9 @@ use Rattle.link.specs.declared.reception.Answer.{Answer}
 use Rattle.link.specs.declared.call.Entry.{Entry}
 use Rattle.link.specs.declared.call.Entry.TheVariants.{OfSealer, OfReceiver}
 use Rattle.link.specs.declared.call.SealerEntry.{SealerEntry}
-use Rattle.link.specs.declared.call.SealerEntry.TheVariants.{Begun, Sealed, Refused, Finished, Abandoned, OutOfTurn}
+use Rattle.link.specs.declared.call.SealerEntry.TheVariants as sealer
 use Rattle.link.specs.declared.call.ReceiverEntry.{ReceiverEntry}
-use Rattle.link.specs.declared.call.ReceiverEntry.TheVariants.{Begun as BegunThere, Refused as RefusedThere, Received, BrokenOff, Finished as Ended}
+use Rattle.link.specs.declared.call.ReceiverEntry.TheVariants as receiver
 
 -- A word that the sealer sealed: its mask, the plaintext it was given, and the wire word.
 pub record Sent : Type 0 where
@@ -29,14 +29,14 @@ sent_too w (m ∷ ms) = record { nonce = m.nonce; words = m.words ++ w ∷ [] } 
 
 -- What an entry of the sealer adds to the messages: a begin opens one, a sealed word is added to it, all else adds nothing.
 abbrev pub message_noted : SealerEntry → List Message → List Message
-message_noted (Begun nonce) ms = record { nonce = nonce; words = [] } ∷ ms
-message_noted (Sealed mask plain wire) ms = sent_too (record { mask = mask; plain = plain; wire = wire }) ms
-message_noted (Refused mask plain fault) ms = ms
-message_noted (Finished tag) ms = ms
-message_noted Abandoned ms = ms
-message_noted (OutOfTurn call) ms = ms
+message_noted (sealer.Begun nonce) ms = record { nonce = nonce; words = [] } ∷ ms
+message_noted (sealer.Sealed mask plain wire) ms = sent_too (record { mask = mask; plain = plain; wire = wire }) ms
+message_noted (sealer.Refused mask plain fault) ms = ms
+message_noted (sealer.Finished tag) ms = ms
+message_noted sealer.Abandoned ms = ms
+message_noted (sealer.OutOfTurn call) ms = ms
 
--- An entry of either end.
+-- What an entry of either end adds to the messages; one of the receiver adds nothing.
 abbrev pub messages_then : List Message → Entry → List Message
 messages_then ms (OfSealer e) = message_noted e ms
 messages_then ms (OfReceiver e) = ms
@@ -74,13 +74,13 @@ marked m ss = record { mark = m; words = [] } ∷ ss
 
 -- What an entry of the receiver adds to the stretches: a mark begins one, a word is added to it, a refused begin adds nothing.
 abbrev pub stretch_noted : ReceiverEntry → List Stretch → List Stretch
-stretch_noted (BegunThere nonce) ss = marked (begin (vec_items nonce)) ss
-stretch_noted (RefusedThere nonce fault) ss = ss
-stretch_noted (Received mask wire answer) ss = heard_too (record { mask = mask; wire = wire; answer = answer }) ss
-stretch_noted BrokenOff ss = marked break ss
-stretch_noted (Ended tag verdict) ss = marked finish ss
+stretch_noted (receiver.Begun nonce) ss = marked (begin (vec_items nonce)) ss
+stretch_noted (receiver.Refused nonce fault) ss = ss
+stretch_noted (receiver.Received mask wire answer) ss = heard_too (record { mask = mask; wire = wire; answer = answer }) ss
+stretch_noted receiver.BrokenOff ss = marked break ss
+stretch_noted (receiver.Finished tag verdict) ss = marked finish ss
 
--- An entry of either end.
+-- What an entry of either end adds to the stretches; one of the sealer adds nothing.
 abbrev pub stretches_then : List Stretch → Entry → List Stretch
 stretches_then ss (OfSealer e) = ss
 stretches_then ss (OfReceiver e) = stretch_noted e ss
@@ -104,14 +104,14 @@ one_more s w = record { start = s.start; words = s.words ++ w ∷ [] }
 
 -- What an entry of the sealer does: begin, finish and abandon reset, a sealed word is added.
 abbrev pub sent_noted : Since Sent → SealerEntry → Since Sent
-sent_noted s (Begun nonce) = reset_to (Some nonce)
-sent_noted s (Sealed mask plain wire) = one_more s (record { mask = mask; plain = plain; wire = wire })
-sent_noted s (Refused mask plain fault) = s
-sent_noted s (Finished tag) = reset_to None
-sent_noted s Abandoned = reset_to None
-sent_noted s (OutOfTurn call) = s
+sent_noted s (sealer.Begun nonce) = reset_to (Some nonce)
+sent_noted s (sealer.Sealed mask plain wire) = one_more s (record { mask = mask; plain = plain; wire = wire })
+sent_noted s (sealer.Refused mask plain fault) = s
+sent_noted s (sealer.Finished tag) = reset_to None
+sent_noted s sealer.Abandoned = reset_to None
+sent_noted s (sealer.OutOfTurn call) = s
 
--- An entry of either end.
+-- What an entry of either end adds to the sealer's words; one of the receiver adds nothing.
 abbrev pub sent_then : Since Sent → Entry → Since Sent
 sent_then s (OfSealer e) = sent_noted s e
 sent_then s (OfReceiver e) = s
@@ -122,13 +122,13 @@ sent_since log = fold sent_then (reset_to None) log
 
 -- What an entry of the receiver does: a begin that was taken and a finish reset, a word is added, a break does nothing.
 abbrev pub heard_noted : Since Heard → ReceiverEntry → Since Heard
-heard_noted s (BegunThere nonce) = reset_to (Some (vec_items nonce))
-heard_noted s (RefusedThere nonce fault) = s
-heard_noted s (Received mask wire answer) = one_more s (record { mask = mask; wire = wire; answer = answer })
-heard_noted s BrokenOff = s
-heard_noted s (Ended tag verdict) = reset_to None
+heard_noted s (receiver.Begun nonce) = reset_to (Some (vec_items nonce))
+heard_noted s (receiver.Refused nonce fault) = s
+heard_noted s (receiver.Received mask wire answer) = one_more s (record { mask = mask; wire = wire; answer = answer })
+heard_noted s receiver.BrokenOff = s
+heard_noted s (receiver.Finished tag verdict) = reset_to None
 
--- An entry of either end.
+-- What an entry of either end adds to the receiver's words; one of the sealer adds nothing.
 abbrev pub heard_then : Since Heard → Entry → Since Heard
 heard_then s (OfSealer e) = s
 heard_then s (OfReceiver e) = heard_noted s e
@@ -141,15 +141,15 @@ heard_since log = fold heard_then (reset_to None) log
 abbrev pub plain_of : Sent → MaskedWord
 plain_of w = record { mask = w.mask; text = w.plain }
 
--- As it was sent.
+-- A word with its mask, as it was sent.
 abbrev pub wire_of : Sent → MaskedWord
 wire_of w = record { mask = w.mask; text = w.wire }
 
--- As it was received.
+-- A word with its mask, as it was received.
 abbrev pub heard_wire : Heard → MaskedWord
 heard_wire w = record { mask = w.mask; text = w.wire }
 
--- The registers that the published cipher has at a reset.
+-- The registers that the words are counted from: zero, or those that the begin with this nonce leaves.
 abbrev pub start_of : (ℕ → ℕ) → (ℕ → ℕ) → Option (List ℕ) → State
 start_of f A None = zeroed
 start_of f A (Some nonce) = begun f A nonce

@@ -9,7 +9,7 @@ use crate::footing::Footing;
 use crate::reception::{Answer, Event, Reception, Release, Verdict};
 use sss::{Coefficient, Fault, KeyedFunction};
 
-/// The receiving end: it steps with every word, and hands out a reading only where it is known to be in step.
+/// The receiving end: it steps with every word, and hands out a reading only while it is whole or caught.
 #[derive(Drop)]
 pub struct Receiver<K, C> {
     engine: Engine<K, C>,

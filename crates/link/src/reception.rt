@@ -7,7 +7,7 @@ ghost use Rattle.link.specs.Receiving.{decided, row_of};
 pub enum Reception {
     /// It began a message, and has been told of no loss since.
     Whole,
-    /// After a loss it has taken seventeen sealed words in a row: it is in step again.
+    /// After a loss it has taken seventeen sealed words in a row: it hands out again.
     Caught,
     /// It has lost its footing. The row is how many sealed words it has taken since, the latest ones in a row: 0 to 16.
     Lost(u8),
