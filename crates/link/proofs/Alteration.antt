@@ -1,5 +1,5 @@
 -- One word that was received otherwise than it was sent, among words that were received as they were sent.
-use Rattle.std.proofs.Common.{◌≡◌, ℕ, ◌≤◌, ◌≢◌, List, [], ◌∷◌, ◌++◌, length, sym, ap, ◌∙◌, subst}
+use Rattle.std.proofs.Common.{◌≡◌, ℕ, ◌≤◌, ◌≢◌, List, ◌∷◌, length, sym, ap, ◌∙◌, subst}
 use Rattle.std.specs.List.{AllByRecursion as Every}
 use Rattle.sss.specs.Cipher.{State, Word, OneToOne, drawn_from}
 use Rattle.sss.specs.declared.message.MaskedWord.{MaskedWord}

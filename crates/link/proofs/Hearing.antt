@@ -7,14 +7,12 @@ use Rattle.sss.specs.Cipher.{State, Word, OneToOne, begun, zeroed}
 use Rattle.sss.specs.declared.Fault.TheVariants.{Nonce}
 use Rattle.link.specs.Ends.{ReceiverState, nonce_fits, receiver_made, ReceiverCallFits}
 use Rattle.link.specs.Log.{Mark, begin, break, finish, Heard, Stretch, heard_too, marked, stretch_noted, Since, heard_noted, heard_wire, start_of}
-use Rattle.link.specs.Receiving.{decided}
 use Rattle.link.specs.declared.call.ReceiverCall.{ReceiverCall}
 use Rattle.link.specs.declared.call.ReceiverCall.TheVariants.{Begin as Hear, Word as Take, Break, Finish as End}
 use Rattle.link.specs.declared.call.ReceiverEntry.{ReceiverEntry}
 use Rattle.link.specs.declared.call.ReceiverEntry.TheVariants as receiver
 use Rattle.link.specs.declared.reception.Reception.{Reception}
-use Rattle.link.specs.declared.reception.Reception.TheVariants.{Whole, Caught, Lost}
-use Rattle.link.specs.declared.reception.Event.TheVariants as event
+use Rattle.link.specs.declared.reception.Reception.TheVariants.{Whole, Lost}
 use Rattle.link.proofs.Every.{every_push}
 use Rattle.link.proofs.Received.{Sized, WireWord, received, all_received, all_received_push, received_sized, zeroed_sized, begun_sized}
 use Rattle.link.proofs.Invariants.{moved, told, start, moves, Starts, Follows, Past, AllStretches, ReceiverGood}

@@ -8,6 +8,7 @@ pub mod Altered
 pub mod Invariants
 pub mod Sealing
 pub mod Hearing
+pub mod OneImage
 pub mod Runs
 pub mod Readings
 pub mod InStep

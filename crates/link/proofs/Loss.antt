@@ -6,7 +6,7 @@ use Rattle.sss.specs.Cipher.{State, OneToOne, begun, plain_word, tag, taken, wir
 use Rattle.link.specs.Receiving.{answer_of, decided, verdict_of}
 use Rattle.link.specs.Ends.{registers_of, SealerState, ready, in_message, ReceiverState, Ends, sealer_made, receiver_made, made, nonce_fits}
 use Rattle.link.specs.Log.{Sent, Message, messages, Mark, begin, Heard, Stretch, stretches, Since, sent_since, heard_since, plain_of, wire_of, heard_wire, start_of, sealer_registers, receiver_registers}
-use Rattle.link.specs.Law.{Law, Beginning, Judged, Published, SeventeenSealed, Unbroken, Withholds, heard_wires, latest_17, sent_wires, wires}
+use Rattle.link.specs.Law.{Law, Beginning, Judged, SeventeenSealed, Unbroken, Withholds, heard_wires, latest_17, sent_wires, wires}
 use Rattle.link.specs.declared.reception.Event.TheVariants as event
 use Rattle.link.specs.declared.reception.Reception.TheVariants.{Whole}
 use Rattle.link.specs.declared.reception.Release.{Release}

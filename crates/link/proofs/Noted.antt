@@ -1,7 +1,7 @@
 -- One call more, noted.
-use Rattle.std.proofs.Common.{◌≡◌, ℕ, List, [], ◌∷◌, ◌++◌, length, Option, None, fold, sym, refl, ap, ◌∙◌, subst, append_assoc, append-nil, arith}
+use Rattle.std.proofs.Common.{◌≡◌, ℕ, List, [], ◌∷◌, ◌++◌, length, Option, None, sym, refl, ap, ◌∙◌, subst, append_assoc, append-nil, arith}
 use Rattle.std.proofs.lemmas.List.Sums.{fold_push}
-use Rattle.link.specs.Ends.{Leads, words_open}
+use Rattle.link.specs.Ends.{words_open}
 use Rattle.link.specs.Histories.{EntryOf}
 use Rattle.link.specs.Noting.{Notes, NotesAll, open_after, open_words}
 use Rattle.link.specs.declared.call.Call.{Call}

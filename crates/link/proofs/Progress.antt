@@ -6,6 +6,7 @@ use Rattle.std.specs.List.{AllByRecursion as Every}
 use Rattle.sss.specs.Cipher.{OneToOne}
 use Rattle.link.specs.Ends.{registers_of, Ends, CallFits, history, new_ends, one_call}
 use Rattle.link.specs.Log.{stretches}
+use Rattle.link.specs.Histories.{SameOnWords}
 use Rattle.link.specs.Law.{Law, Withholds}
 use Rattle.link.specs.declared.call.Call.{Call}
 use Rattle.link.specs.declared.call.Entry.{Entry}
@@ -67,10 +68,9 @@ fits_none [] none = tt
 fits_none (x ∷ xs) none = absurd (omega arith)
 
 -- The law holds of a history with one function and one coefficient.
-pub history_law : (f A f' A' : ℕ → ℕ) → OneToOne f → OneToOne A → f ≡ f' → A ≡ A' → (calls : List Call) → Every CallFits calls →
+pub history_law : (f A f' A' : ℕ → ℕ) → OneToOne f → OneToOne A → f ≡ f' → SameOnWords A A' → (calls : List Call) → Every CallFits calls →
     (h : Ends × List Entry) → h ≡ history f A f' A' calls → Every Withholds (stretches h.1) → Law f A h.1 (registers_of h.0.sealer) h.0.receiver.registers
 history_law f A f' A' onef oneA same-f same_A calls fits h is withheld =
-    let one : history f A f A calls ≡ h =
-    ap (λ (z : ℕ → ℕ). history f A z A calls) same-f ∙ ap (λ (z : ℕ → ℕ). history f A f' z calls) same_A ∙ sym is in
+    let one : history f A f A' calls ≡ h = ap (λ (z : ℕ → ℕ). history f A z A' calls) same-f ∙ sym is in
     subst (λ (z : Ends × List Entry). Law f A z.1 (registers_of z.0.sealer) z.0.receiver.registers) one
-    (law f A onef oneA (subst (λ (z : Ends × List Entry). Every Withholds (stretches z.1)) (sym one) withheld) (history_run f A calls fits))
+    (law f A onef oneA (subst (λ (z : Ends × List Entry). Every Withholds (stretches z.1)) (sym one) withheld) (history_run f A onef oneA A' same_A calls fits))

@@ -108,7 +108,7 @@ unfolding zeroed
 zeroed_sized = record { r_size = refl; c_size = refl; r_words = zeros_words 17; c_words = zeros_words 17 }
 
 -- Two bytes make a word.
-words_of_words : (bs : List ℕ) → Every (λ b. b < 256) bs → Every Word (words_of bs)
+pub words_of_words : (bs : List ℕ) → Every (λ b. b < 256) bs → Every Word (words_of bs)
 words_of_words [] h = tt
 words_of_words (a ∷ []) h = tt
 words_of_words (a ∷ b ∷ bs) h = (omega (arith, h.0, h.1.0), words_of_words bs h.1.1)
@@ -146,7 +146,7 @@ module _ (f A : ℕ → ℕ) (onef : OneToOne f) (oneA : OneToOne A) where
   all_received_sized g (w ∷ ws) h l =
       all_received_sized (received f A g w.mask w.text) ws (received_sized g w.mask w.text h l.0) l.1
 
-  nonces_sized : (g : State) (ns : List ℕ) → Sized g → Every Word ns → Sized (nonces_taken f A g ns)
+  pub nonces_sized : (g : State) (ns : List ℕ) → Sized g → Every Word ns → Sized (nonces_taken f A g ns)
   unfolding nonces_taken nonce_taken
   nonces_sized g [] h a = h
   nonces_sized g (n ∷ ns) h a =

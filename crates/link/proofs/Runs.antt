@@ -1,5 +1,5 @@
 -- What holds of both ends holds after any calls, and each beginning of a log is the log of a run.
-use Rattle.std.proofs.Common.{◌≡◌, ℕ, ◌⊎◌, List, [], ◌∷◌, ◌++◌, None, fold, refl, subst, inl, inr, ⊎_elim, append-nil, ◌∙◌, arith}
+use Rattle.std.proofs.Common.{◌≡◌, ℕ, ◌⊎◌, List, [], ◌∷◌, ◌++◌, None, fold, sym, refl, subst, inl, inr, ⊎_elim, append-nil, ◌∙◌, arith}
 use Rattle.std.specs.List.{AllByRecursion as Every}
 use Rattle.std.proofs.lemmas.List.Sums.{fold_push}
 use Rattle.sss.specs.Cipher.{OneToOne}
@@ -10,6 +10,8 @@ use Rattle.link.specs.declared.call.Call.TheVariants.{OnSealer, OnReceiver}
 use Rattle.link.specs.declared.call.Entry.{Entry}
 use Rattle.link.proofs.Received.{all_received, zeroed_sized}
 use Rattle.link.proofs.Invariants.{SealerGood, ReceiverGood, Good, Run, none, more}
+use Rattle.link.specs.Histories.{SameOnWords}
+use Rattle.link.proofs.OneImage.{made_same}
 use Rattle.link.proofs.Sealing.{sealer_keeps}
 use Rattle.link.proofs.Hearing.{receiver_keeps}
 
@@ -78,15 +80,19 @@ module _ (f A : ℕ → ℕ) where
   good onef oneA none = good_new
   good onef oneA (more {s} {log} r x fits) = good_made onef oneA s log x fits (good onef oneA r)
 
-  -- A list of calls is a run.
-  run_on : (h : Ends × List Entry) (calls : List Call) → Every CallFits calls → Run f A h.0 h.1 →
-      (let t = fold (one_call f A f A) h calls in Run f A t.0 t.1)
-  run_on h [] fits r = r
-  run_on h (x ∷ calls) fits r = run_on (one_call f A f A h x) calls fits.1 (more r x fits.0)
+  -- A list of calls is a run, where both coefficients are one map on words.
+  module _ (onef : OneToOne f) (oneA : OneToOne A) (B : ℕ → ℕ) (same : SameOnWords A B) where
+    run_on : (h : Ends × List Entry) (calls : List Call) → Every CallFits calls → Run f A h.0 h.1 →
+        (let t = fold (one_call f A f B) h calls in Run f A t.0 t.1)
+    run_on h [] fits r = r
+    run_on h (x ∷ calls) fits r =
+        run_on (one_call f A f B h x) calls fits.1
+        (subst (λ (o : Ends × Entry). Run f A o.0 (h.1 ++ o.1 ∷ []))
+        (sym (made_same f A B onef oneA same h.0 x (good onef oneA r).receiver.sized fits.0)) (more r x fits.0))
 
-  pub history_run : (calls : List Call) → Every CallFits calls → Run f A (history f A f A calls).0 (history f A f A calls).1
-  unfolding history
-  history_run calls fits = run_on (new_ends, []) calls fits none
+    pub history_run : (calls : List Call) → Every CallFits calls → Run f A (history f A f B calls).0 (history f A f B calls).1
+    unfolding history
+    history_run calls fits = run_on (new_ends, []) calls fits none
 
   -- Each beginning of a log is the log of a run, and the next entry is what a call notes there.
   pub earlier_run : {s : Ends} {log : List Entry} → Run f A s log → (before later : List Entry) (e : Entry) → log ≡ before ++ e ∷ later →

@@ -1,9 +1,10 @@
 -- A history of calls on both ends, and what is promised of it. F and L say what the sealer's keyed function and coefficient mean, G and M
 -- what the receiver's mean.
-use Rattle.std.specs.Prelude.{◌≡◌, ◌+◌, ◌≤◌, List, [], ◌∷◌, ◌++◌, vec_items, vec_len, vec_capacity, Vec}
+use Rattle.std.specs.Prelude.{◌≡◌, ℕ, ◌+◌, ◌≤◌, List, [], ◌∷◌, ◌++◌, vec_items, vec_len, vec_capacity, Vec}
 use Rattle.std.specs.List.{AllByRecursion as Every}
 use Rattle.std.specs.declared.alloc.Global.{Global}
 use Rattle.sss.specs.Asked.{Keeps}
+use Rattle.sss.specs.Cipher.{Word}
 use Rattle.sss.specs.declared.keyed.KeyedFunction.{Ghosts as Keyed}
 use Rattle.sss.specs.declared.coefficient.Coefficient.{Ghosts as Coefficient}
 use Rattle.link.specs.Ends.{Ends, Leads, history, one_call, receiving, registers_of, sealer_engine, sealing, words_open}
@@ -16,6 +17,10 @@ use Rattle.link.specs.declared.call.Call.TheVariants.{OnSealer, OnReceiver}
 use Rattle.link.specs.declared.call.Entry.{Entry}
 use Rattle.link.specs.declared.call.Entry.TheVariants.{OfSealer, OfReceiver}
 use Rattle.link.specs.declared.history.History.{History}
+
+-- Two maps are one on words.
+abbrev pub SameOnWords : (ℕ → ℕ) → (ℕ → ℕ) → Type 0
+SameOnWords A B = (a : ℕ) → Word a → A a ≡ B a
 
 module _ {SK SC RK RC : Type 0} where
   -- Where both ends of a history stand, and its log.
@@ -79,8 +84,8 @@ module _ {SK SC RK RC : Type 0} where
         F.sound sealer.0 → G.sound receiver.0 →
         after h ≡ history (function_of F sealer.0) (L.image sealer.1) (function_of G receiver.0) (M.image receiver.1) calls
 
-    -- THE LAW OF A LOSS holds of it where both keyed functions are sound and have one table, and both coefficients are one map.
+    -- THE LAW OF A LOSS holds of it where both keyed functions are sound and have one table, and both coefficients are one map on words.
     abbrev pub ObeysLaw : SK × SC → RK × RC → History SK SC RK RC → Type 0
     ObeysLaw sealer receiver h =
-        F.sound sealer.0 → G.sound receiver.0 → F.table sealer.0 ≡ G.table receiver.0 → L.image sealer.1 ≡ M.image receiver.1 →
+        F.sound sealer.0 → G.sound receiver.0 → F.table sealer.0 ≡ G.table receiver.0 → SameOnWords (L.image sealer.1) (M.image receiver.1) →
         Law (function_of F sealer.0) (L.image sealer.1) (vec_items h.log) (registers_of (sealing h.sealer)) (receiving h.receiver).registers
