@@ -1,18 +1,20 @@
 -- Which words of a stretch are withheld.
-use Rattle.std.proofs.Common.{◌≡◌, ℕ, ◌+◌, ◌<◌, ◌≤◌, eqb, ◌≢◌, ◌⊎◌, List, [], ◌∷◌, ◌++◌, length, vec_items, sym, refl, ap, ◌∙◌, subst, inl, inr, append_assoc, append-nil, arith, length-append}
+use Rattle.std.proofs.Common.{◌≡◌, ◌↔◌, ℕ, ◌+◌, ◌<◌, ◌≤◌, eqb, ◌≢◌, ◌⊎◌, List, [], ◌∷◌, ◌++◌, length, vec_items, sym, refl, ap, ◌∙◌, subst, inl, inr, append_assoc, append-nil, arith, length-append}
 use Rattle.std.specs.List.{AllByRecursion as Every}
 use Rattle.std.proofs.lemmas.List.{length_push, same_from_push}
 use Rattle.std.proofs.lemmas.Bool.{cond_both, eqb-true, eqb-false}
-use Rattle.link.specs.Receiving.{Released, decided, row_after, with_row}
+use Rattle.link.specs.Receiving.{Given, Released, decided, row_after, with_row}
 use Rattle.link.specs.Ends.{Leads}
 use Rattle.link.specs.Log.{Mark, new, begin, break, finish, Heard, Stretch, marked, stretch_noted, stretches}
-use Rattle.link.specs.Law.{SealedHeard, RowOf17, RowIs, IsWithheld, HandedOut, Withholds}
+use Rattle.link.specs.Law.{BrokenExactly, SealedHeard, RowOf17, RowIs, IsWithheld, HandedOut, Withholds}
 use Rattle.link.specs.declared.reception.Reception.{Reception}
 use Rattle.link.specs.declared.reception.Reception.TheVariants.{Whole, Caught, Lost}
 use Rattle.link.specs.declared.reception.Event.TheVariants as event
 use Rattle.link.specs.declared.reception.Release.TheVariants.{HandOut, Withhold}
 use Rattle.link.specs.declared.reception.Answer.{Answer}
 use Rattle.link.specs.declared.reception.Answer.TheVariants.{Reading, Withheld}
+use Rattle.link.specs.declared.reception.Verdict.{Verdict}
+use Rattle.link.specs.declared.reception.Verdict.TheVariants.{Agrees, Differs, Broken}
 use Rattle.link.specs.declared.call.Entry.{Entry}
 use Rattle.link.specs.declared.call.Entry.TheVariants.{OfSealer, OfReceiver}
 use Rattle.link.specs.declared.call.ReceiverEntry.{ReceiverEntry}
@@ -213,3 +215,44 @@ pub entry_stands : (log : List Entry) (s s' : Reception) (e : Entry) → EntryLe
     Standing (stretches (log ++ e ∷ [])) s'
 entry_stands log s s' (OfSealer e) to h = rw (stretches_push log (OfSealer e)) (subst (Standing (stretches log)) (sym to) h)
 entry_stands log s s' (OfReceiver e) to h = rw (stretches_push log (OfReceiver e)) (heard_stands (stretches log) s s' e to h)
+
+-- A verdict that is given where none may be is broken.
+broken_given : (n : ℕ) (v : Verdict) → Given (Withhold n) v → v ≡ Broken
+broken_given n Agrees said = absurd said
+broken_given n Differs said = absurd said
+broken_given n Broken said = refl
+
+counted_broken : (ws : List Heard) (s : Reception) (v : Verdict) → Counted ws s → Given (decided s event.Finish).1 v → v ≡ Broken
+counted_broken ws Whole v c said = absurd c
+counted_broken ws Caught v c said = broken_given 0 v said
+counted_broken ws (Lost n) v c said = broken_given 0 v said
+
+-- The verdict on the present stretch.
+ended : (ss : List Stretch) (s : Reception) (v : Verdict) → Standing ss s → Given (decided s event.Finish).1 v →
+    (st : Stretch) × (others : List Stretch) × (ss ≡ st ∷ others) × ((v ≡ Broken) ↔ ((nonce : List ℕ) → st.mark ≢ begin nonce))
+ended [] s v h said = absurd h
+ended (st ∷ ss) s v h said = (
+  st,
+  ss,
+  refl,
+  (
+    λ broken nonce e.
+        subst (λ (w : Verdict). Given HandOut w) broken
+        (subst (λ (x : Reception). Given (decided x event.Finish).1 v) (h.0.after_begin nonce e) said),
+    λ none. counted_broken st.words s v (h.0.after_other none) said,
+  ),
+)
+
+-- A log of no entries, and one entry more.
+pub new_broken : BrokenExactly []
+new_broken [] later t v q = let z : ◌≡◌ {A = ℕ} 0 1 = cc in absurd (omega arith)
+new_broken (b ∷ before) later t v q = let z : ◌≡◌ {A = ℕ} 0 1 = cc in absurd (omega arith)
+
+pub entry_broken : (log : List Entry) (s s' : Reception) (e : Entry) → EntryLeads s e s' → Standing (stretches log) s → BrokenExactly log →
+    BrokenExactly (log ++ e ∷ [])
+entry_broken log s s' e to at h before later t v q = elim (cut_push log before later e (OfReceiver (Finished t v)) q) [
+  | inl last ↦
+      ended (stretches before) s v (subst (λ (l : List Entry). Standing (stretches l) s) last.0 at)
+      (subst (λ (x : Entry). EntryLeads s x s') last.1 to).1
+  | inr inner ↦ h before inner.0 t v inner.1
+]

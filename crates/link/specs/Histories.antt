@@ -10,7 +10,7 @@ use Rattle.sss.specs.declared.coefficient.Coefficient.{Ghosts as Coefficient}
 use Rattle.link.specs.Ends.{Ends, Leads, history, one_call, receiving, registers_of, sealer_engine, sealing, words_open}
 use Rattle.link.specs.Noting.{NotesAll, NotesReceiver, NotesSealer, open_then}
 use Rattle.link.specs.Log.{stretches}
-use Rattle.link.specs.Law.{Law, Withholds}
+use Rattle.link.specs.Law.{BrokenExactly, Law, Withholds}
 use Rattle.link.specs.Meaning.{function_of}
 use Rattle.link.specs.declared.call.Call.{Call}
 use Rattle.link.specs.declared.call.Call.TheVariants.{OnSealer, OnReceiver}
@@ -61,6 +61,10 @@ module _ {SK SC RK RC : Type 0} where
   -- stretch are withheld that must be, each with its row.
   abbrev pub WithheldExactly : History SK SC RK RC → Type 0
   WithheldExactly h = Every Withholds (stretches (vec_items h.log))
+
+  -- THE BROKEN MESSAGES, with no assumption: exactly those verdicts are "broken" that must be.
+  abbrev pub BrokenVerdicts : History SK SC RK RC → Type 0
+  BrokenVerdicts h = BrokenExactly (vec_items h.log)
 
   module _ (F : Keyed SK) (L : Coefficient SC) (G : Keyed RK) (M : Coefficient RC) where
     -- The functions of a history mean what these mean, each of which an end works with, and its coefficients are these.

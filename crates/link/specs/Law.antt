@@ -121,6 +121,12 @@ pub record Withholds (s : Stretch) : Type 0 where
   pub after_other : ((nonce : List ℕ) → s.mark ≢ begin nonce) → (front : List Heard) (w : Heard) (back : List Heard) →
       s.words ≡ front ++ w ∷ back → (IsWithheld front w × ¬ RowOf17 front) ⊎ (HandedOut w × RowOf17 front)
 
+-- BROKEN MESSAGES. A verdict is "broken" exactly where the stretch that it ends, the latest of the log before it, came after another mark than
+-- a begin.
+abbrev pub BrokenExactly : List Entry → Type 0
+BrokenExactly log = (before later : List Entry) (tag : List ℕ) (verdict : Verdict) → log ≡ before ++ OfReceiver (receiver.Finished tag verdict) ∷ later →
+    (s : Stretch) × (others : List Stretch) × (stretches before ≡ s ∷ others) × ((verdict ≡ Broken) ↔ ((nonce : List ℕ) → s.mark ≢ begin nonce))
+
 -- ALTERED WORDS. Of the words sent and the words received exactly one differs, all masks are as sent, none is missing or added, and all
 -- later words are sealed.
 pub record OneAltered (sent heard : List MaskedWord) : Type 0 where

@@ -1,7 +1,7 @@
 //! Histories: a list of calls on two new ends, and the law of a loss, which holds of every one.
 ghost use Rattle.std.specs.Prelude.{◌<◌, ◌≤◌, IfOk, vec_len, vec_capacity, MatchResult, OnErr};
 ghost use Rattle.link.specs.Ends.{CallFits};
-ghost use Rattle.link.specs.Histories.{IsHistory, NotesCalls, ObeysLaw, OneEntry, OneLonger, OneMore, SameMeaning, WithheldExactly, receiver_with, sealer_with};
+ghost use Rattle.link.specs.Histories.{BrokenVerdicts, IsHistory, NotesCalls, ObeysLaw, OneEntry, OneLonger, OneMore, SameMeaning, WithheldExactly, receiver_with, sealer_with};
 
 use crate::call::{Call, Entry};
 use crate::ends::Sealer;
@@ -25,7 +25,7 @@ where
     RK: KeyedFunction + Drop,
     RC: Coefficient + Drop,
 {
-    /// One call more. An `Err` comes only where the log is full and finds no more memory.
+    /// One call more. An `Err`, of want of memory, comes only where the log is full.
     fn take(self, call: Call) -> Result<Self, AllocError>
         ensures value { IfOk result (OneMore SK.KeyedFunction SC.Coefficient RK.KeyedFunction RC.Coefficient self call) }
         ensures meaning { IfOk result (SameMeaning SK.KeyedFunction SC.Coefficient RK.KeyedFunction RC.Coefficient (sealer_with self) (receiver_with self)) }
@@ -62,8 +62,8 @@ where
 }
 
 /// Makes both ends new and makes the calls of a list in order, whatever they are. A call out of turn is not made, and a refused call changes
-/// nothing; the log says which. The log is kept in the `Vec` that is passed, which is emptied first. An `Err` comes only where that has less
-/// room than there are calls and finds no more memory.
+/// nothing; the log says which. The log is kept in the `Vec` that is passed, which is emptied first. An `Err`, of want of memory, comes only
+/// where that has less room than there are calls.
 pub fn run<SK, SC, RK, RC>(
     sealer: (SK, SC),
     receiver: (RK, RC),
@@ -79,6 +79,7 @@ where
     ensures law { IfOk result (ObeysLaw SK.KeyedFunction SC.Coefficient RK.KeyedFunction RC.Coefficient sealer receiver) }
     ensures noted { IfOk result (NotesCalls calls.items) }
     ensures withheld { IfOk result WithheldExactly }
+    ensures broken { IfOk result BrokenVerdicts }
     ensures meaning { IfOk result (SameMeaning SK.KeyedFunction SC.Coefficient RK.KeyedFunction RC.Coefficient sealer receiver) }
     ensures room { OnErr result (vec_capacity log < vec_len calls) }
 {

@@ -14,7 +14,7 @@ use Rattle.link.specs.declared.call.Entry.{Entry}
 use Rattle.link.proofs.Progress.{ToCome, enough_more, refused_by, to_come_by, too_small, to_come_more, to_come_none, fits_more, fits_none, history_law}
 use Rattle.link.specs.Noting.{NotesAll}
 use Rattle.link.proofs.Noted.{all_made, entry_leads, none_made, one_made}
-use Rattle.link.proofs.Withheld.{all_withheld, entry_stands, new_stands}
+use Rattle.link.proofs.Withheld.{all_withheld, entry_broken, entry_stands, new_broken, new_stands}
 use Rattle.link.proofs.history.run.Goals as goal
 
 -- A function that an end was made with.
@@ -32,6 +32,7 @@ loop-call-init g c = (
   λ h. h,
   rw (c.clear.ensures.items, c.new-2.ensures.reception) new_stands,
   rw c.clear.ensures.items (none_made (into_iter_items c.into_iter-call-iterator.result)),
+  rw c.clear.ensures.items new_broken,
 )
 
 pub loop-call-preserved : goal.loop-call-preserved
@@ -74,6 +75,9 @@ loop-call-preserved g c =
           said.entry.0 (entry_leads c.loop-call.history next x said.entry.0 said.entry.2) inv.7),
       one_made c.loop-call.history next all left rest (vec_items c.loop-call.history.log) (vec_items next.log) x said.entry.0 inv.8 first
           said.entry.1 said.entry.2,
+      rw said.entry.1
+          (entry_broken (vec_items c.loop-call.history.log) c.loop-call.history.receiver.footing.reception next.receiver.footing.reception
+          said.entry.0 (entry_leads c.loop-call.history next x said.entry.0 said.entry.2) inv.7 inv.9),
     )
 
 pub returns-in_err-history : goal.returns-in_err-history
@@ -87,6 +91,7 @@ returns-in_err-history g c =
       law = search rules;
       noted = search rules;
       withheld = search rules;
+      broken = search rules;
       meaning = search rules;
       room =
           refused_by c.from_residual.result
@@ -137,6 +142,7 @@ returns g c =
           subst (λ (z : List Call). NotesAll [] z (vec_items c.loop-call.history.log)) c.into_iter-call-iterator.ensures.into_iter_gives.0
           (all_made all rest (vec_items c.loop-call.history.log) (words_open c.loop-call.history.sealer) inv.8 none);
       withheld = withheld;
+      broken = inv.9;
       meaning =
           record {
             sealer = from_start S (sealer_engine c.loop-call.history.sealer).function sealer.function inv.2;

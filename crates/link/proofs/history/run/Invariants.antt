@@ -6,6 +6,7 @@ use Rattle.sss.specs.Asked.{Keeps}
 use Rattle.link.specs.Ends.{CallFits, sealer_engine, words_open}
 use Rattle.link.specs.Histories.{after}
 use Rattle.link.specs.Log.{stretches}
+use Rattle.link.specs.Law.{BrokenExactly}
 use Rattle.link.proofs.Noted.{Made}
 use Rattle.link.proofs.Progress.{Enough, ToCome}
 use Rattle.link.proofs.Withheld.{Standing}
@@ -30,4 +31,5 @@ invariant-loop-call g l =
     (l.history.receiver.engine.coefficient ≡ b) ×
     Enough l.initial.history.log all l.history.log rest ×
     Standing (stretches (vec_items l.history.log)) l.history.receiver.footing.reception ×
-    Made all rest (vec_items l.history.log) (words_open l.history.sealer)
+    Made all rest (vec_items l.history.log) (words_open l.history.sealer) ×
+    BrokenExactly (vec_items l.history.log)
