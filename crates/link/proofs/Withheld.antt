@@ -6,7 +6,7 @@ use Rattle.std.proofs.lemmas.Bool.{cond_both, eqb-true, eqb-false}
 use Rattle.link.specs.Receiving.{Given, Released, decided, row_after, with_row}
 use Rattle.link.specs.Ends.{Leads}
 use Rattle.link.specs.Log.{Mark, new, begin, break, finish, Heard, Stretch, marked, stretch_noted, stretches}
-use Rattle.link.specs.Law.{BrokenExactly, SealedHeard, RowOf17, RowIs, IsWithheld, HandedOut, Withholds}
+use Rattle.link.specs.Law.{BrokenExactly, SealedHeard, RowOf17, RowIs, IsWithheld, HandedOut, StandsAfter, Withholds}
 use Rattle.link.specs.declared.reception.Reception.{Reception}
 use Rattle.link.specs.declared.reception.Reception.TheVariants.{Whole, Caught, Lost}
 use Rattle.link.specs.declared.reception.Event.TheVariants as event
@@ -215,6 +215,18 @@ pub entry_stands : (log : List Entry) (s s' : Reception) (e : Entry) → EntryLe
     Standing (stretches (log ++ e ∷ [])) s'
 entry_stands log s s' (OfSealer e) to h = rw (stretches_push log (OfSealer e)) (subst (Standing (stretches log)) (sym to) h)
 entry_stands log s s' (OfReceiver e) to h = rw (stretches_push log (OfReceiver e)) (heard_stands (stretches log) s s' e to h)
+
+-- Where the receiver stands, by the present stretch.
+counted_after : (ws : List Heard) (s : Reception) → Counted ws s →
+    ((s ≡ Caught) × RowOf17 ws) ⊎ ((n : ℕ) × (s ≡ Lost n) × RowIs n ws × ¬ RowOf17 ws)
+counted_after ws Whole c = absurd c
+counted_after ws Caught c = inl (refl, c)
+counted_after ws (Lost n) c = inr (n, refl, c.1, c.2)
+
+pub stands_after : (ss : List Stretch) (s : Reception) → Standing ss s → (st : Stretch) × (others : List Stretch) × (ss ≡ st ∷ others) × StandsAfter st s
+stands_after [] s h = absurd h
+stands_after (st ∷ ss) s h =
+    (st, ss, refl, record { after_begin = h.0.after_begin; after_other = λ none. counted_after st.words s (h.0.after_other none) })
 
 -- A verdict that is given where none may be is broken.
 broken_given : (n : ℕ) (v : Verdict) → Given (Withhold n) v → v ≡ Broken

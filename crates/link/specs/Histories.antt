@@ -8,9 +8,9 @@ use Rattle.sss.specs.Cipher.{Word}
 use Rattle.sss.specs.declared.keyed.KeyedFunction.{Ghosts as Keyed}
 use Rattle.sss.specs.declared.coefficient.Coefficient.{Ghosts as Coefficient}
 use Rattle.link.specs.Ends.{Ends, Leads, history, one_call, receiving, registers_of, sealer_engine, sealing, words_open}
-use Rattle.link.specs.Noting.{NotesAll, NotesReceiver, NotesSealer, open_then}
-use Rattle.link.specs.Log.{stretches}
-use Rattle.link.specs.Law.{BrokenExactly, Law, Withholds}
+use Rattle.link.specs.Noting.{NotesAll, NotesReceiver, NotesSealer, open_then, open_words}
+use Rattle.link.specs.Log.{Stretch, stretches}
+use Rattle.link.specs.Law.{BrokenExactly, Law, StandsAfter, Withholds}
 use Rattle.link.specs.Meaning.{function_of}
 use Rattle.link.specs.declared.call.Call.{Call}
 use Rattle.link.specs.declared.call.Call.TheVariants.{OnSealer, OnReceiver}
@@ -65,6 +65,12 @@ module _ {SK SC RK RC : Type 0} where
   -- THE BROKEN MESSAGES, with no assumption: exactly those verdicts are "broken" that must be.
   abbrev pub BrokenVerdicts : History SK SC RK RC → Type 0
   BrokenVerdicts h = BrokenExactly (vec_items h.log)
+
+  -- WHERE BOTH ENDS STAND, with no assumption: whether a message is open at the sealer, and with how many words, and the receiver's state and
+  -- row, by the log.
+  pub record StandsAsNoted (h : History SK SC RK RC) : Type 0 where
+    pub sealer : words_open h.sealer ≡ open_words (vec_items h.log)
+    pub receiver : (s : Stretch) × (others : List Stretch) × (stretches (vec_items h.log) ≡ s ∷ others) × StandsAfter s h.receiver.footing.reception
 
   module _ (F : Keyed SK) (L : Coefficient SC) (G : Keyed RK) (M : Coefficient RC) where
     -- The functions of a history mean what these mean, each of which an end works with, and its coefficients are these.

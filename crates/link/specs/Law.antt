@@ -6,6 +6,8 @@ use Rattle.std.specs.List.{AllByRecursion as Every}
 use Rattle.sss.specs.Cipher.{State, drawn_from, plain_word, sealed_message, opened_message, message_tag}
 use Rattle.sss.specs.declared.message.MaskedWord.{MaskedWord}
 use Rattle.link.specs.Log.{Sent, Message, messages, begin, Heard, Stretch, stretches, sent_since, heard_since, plain_of, wire_of, heard_wire, sealer_registers, receiver_registers}
+use Rattle.link.specs.declared.reception.Reception.{Reception}
+use Rattle.link.specs.declared.reception.Reception.TheVariants.{Whole, Caught, Lost}
 use Rattle.link.specs.declared.reception.Answer.{Answer}
 use Rattle.link.specs.declared.reception.Answer.TheVariants.{Reading, Withheld}
 use Rattle.link.specs.declared.reception.Verdict.{Verdict}
@@ -120,6 +122,13 @@ pub record Withholds (s : Stretch) : Type 0 where
   pub after_begin : (nonce : List ℕ) → s.mark ≡ begin nonce → Every HandedOut s.words
   pub after_other : ((nonce : List ℕ) → s.mark ≢ begin nonce) → (front : List Heard) (w : Heard) (back : List Heard) →
       s.words ≡ front ++ w ∷ back → (IsWithheld front w × ¬ RowOf17 front) ⊎ (HandedOut w × RowOf17 front)
+
+-- Where a receiver stands after the words of a stretch: whole after a begin. After any other mark it is caught where seventeen sealed words in
+-- a row stand among them, and else lost with their row.
+pub record StandsAfter (s : Stretch) (reception : Reception) : Type 0 where
+  pub after_begin : (nonce : List ℕ) → s.mark ≡ begin nonce → reception ≡ Whole
+  pub after_other : ((nonce : List ℕ) → s.mark ≢ begin nonce) →
+      ((reception ≡ Caught) × RowOf17 s.words) ⊎ ((n : ℕ) × (reception ≡ Lost n) × RowIs n s.words × ¬ RowOf17 s.words)
 
 -- BROKEN MESSAGES. A verdict is "broken" exactly where the stretch that it ends, the latest of the log before it, came after another mark than
 -- a begin.

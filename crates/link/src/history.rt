@@ -1,7 +1,7 @@
 //! Histories: a list of calls on two new ends, and the law of a loss, which holds of every one.
 ghost use Rattle.std.specs.Prelude.{◌<◌, ◌≤◌, IfOk, vec_len, vec_capacity, MatchResult, OnErr};
 ghost use Rattle.link.specs.Ends.{CallFits};
-ghost use Rattle.link.specs.Histories.{BrokenVerdicts, IsHistory, NotesCalls, ObeysLaw, OneEntry, OneLonger, OneMore, SameMeaning, WithheldExactly, receiver_with, sealer_with};
+ghost use Rattle.link.specs.Histories.{BrokenVerdicts, IsHistory, NotesCalls, ObeysLaw, OneEntry, OneLonger, OneMore, SameMeaning, StandsAsNoted, WithheldExactly, receiver_with, sealer_with};
 
 use crate::call::{Call, Entry};
 use crate::ends::Sealer;
@@ -80,6 +80,7 @@ where
     ensures noted { IfOk result (NotesCalls calls.items) }
     ensures withheld { IfOk result WithheldExactly }
     ensures broken { IfOk result BrokenVerdicts }
+    ensures standing { IfOk result StandsAsNoted }
     ensures meaning { IfOk result (SameMeaning SK.KeyedFunction SC.Coefficient RK.KeyedFunction RC.Coefficient sealer receiver) }
     ensures room { OnErr result (vec_capacity log < vec_len calls) }
 {

@@ -14,7 +14,7 @@ use Rattle.link.specs.declared.call.Entry.{Entry}
 use Rattle.link.proofs.Progress.{ToCome, enough_more, refused_by, to_come_by, too_small, to_come_more, to_come_none, fits_more, fits_none, history_law}
 use Rattle.link.specs.Noting.{NotesAll}
 use Rattle.link.proofs.Noted.{all_made, entry_leads, none_made, one_made}
-use Rattle.link.proofs.Withheld.{all_withheld, entry_broken, entry_stands, new_broken, new_stands}
+use Rattle.link.proofs.Withheld.{all_withheld, entry_broken, entry_stands, new_broken, new_stands, stands_after}
 use Rattle.link.proofs.history.run.Goals as goal
 
 -- A function that an end was made with.
@@ -92,6 +92,7 @@ returns-in_err-history g c =
       noted = search rules;
       withheld = search rules;
       broken = search rules;
+      standing = search rules;
       meaning = search rules;
       room =
           refused_by c.from_residual.result
@@ -143,6 +144,11 @@ returns g c =
           (all_made all rest (vec_items c.loop-call.history.log) (words_open c.loop-call.history.sealer) inv.8 none);
       withheld = withheld;
       broken = inv.9;
+      standing =
+          record {
+            sealer = sym inv.8.open_is;
+            receiver = stands_after (stretches (vec_items c.loop-call.history.log)) c.loop-call.history.receiver.footing.reception inv.7;
+          };
       meaning =
           record {
             sealer = from_start S (sealer_engine c.loop-call.history.sealer).function sealer.function inv.2;
