@@ -1,12 +1,13 @@
 -- One word that was received otherwise than it was sent, among words that were received as they were sent.
-use Rattle.std.proofs.Common.{◌≡◌, ℕ, ◌≤◌, ◌≢◌, List, ◌∷◌, length, sym, ap, ◌∙◌, subst}
+use Rattle.std.proofs.Common.{◌≡◌, ℕ, ◌≢◌, List, ◌∷◌, sym, ap, ◌∙◌, subst}
 use Rattle.std.specs.List.{AllByRecursion as Every}
 use Rattle.sss.specs.Cipher.{State, Word, OneToOne, drawn_from}
 use Rattle.sss.specs.declared.message.MaskedWord.{MaskedWord}
 use Rattle.link.specs.Law.{OneAltered}
 use Rattle.link.proofs.Every.{every_parts}
 use Rattle.link.proofs.Received.{Sized, WireWord, received, all_received, all_received_sized, all_received-++}
-use Rattle.link.proofs.Altered.{altered, altered_drawn}
+use Rattle.link.proofs.Altered.{altered}
+use Rattle.link.proofs.Drawn.{drawn}
 
 -- The registers just before the altered word, which both ends had, and from them the registers of both.
 record Apart (f A : ℕ → ℕ) (b : State) (sent heard : List MaskedWord) (a : OneAltered sent heard) : Type 0 where
@@ -44,10 +45,9 @@ module _ (f A : ℕ → ℕ) (onef : OneToOne f) (oneA : OneToOne A) (b : State)
       altered f A onef oneA x.before x.sized a.mask a.was a.became x.was_word x.became_word a.altered a.later
       a.later_sealed x.later_words (ap (λ (z : State). z.c) (sym x.sent_to) ∙ e ∙ ap (λ (z : State). z.c) x.heard_to)
 
-  -- With seventeen or more later words, so do the registers that the tags are drawn from.
-  pub one_altered_tag : (a : OneAltered sent heard) → 17 ≤ length a.later →
-      drawn_from f (all_received f A b sent) ≢ drawn_from f (all_received f A b heard)
-  one_altered_tag a n e =
+  -- So do the registers that the tags are drawn from.
+  pub one_altered_tag : OneAltered sent heard → drawn_from f (all_received f A b sent) ≢ drawn_from f (all_received f A b heard)
+  one_altered_tag a e =
       let x = apart a in
-      altered_drawn f A onef oneA x.before x.sized a.mask a.was a.became x.was_word x.became_word a.altered a.later
-      a.later_sealed x.later_words n (ap (drawn_from f) (sym x.sent_to) ∙ e ∙ ap (drawn_from f) x.heard_to)
+      drawn f A onef oneA x.before x.sized a.mask a.was a.became x.was_word x.became_word a.later a.later_sealed x.later_words a.altered
+      (ap (drawn_from f) (sym x.sent_to) ∙ e ∙ ap (drawn_from f) x.heard_to)

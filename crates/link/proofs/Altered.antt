@@ -4,13 +4,15 @@ use lib.Bits.{bit_and, bit_xor}
 use Rattle.std.specs.List.{AllByRecursion as Every}
 use Rattle.std.proofs.lemmas.Bool.{cases_lt}
 use Rattle.std.proofs.lemmas.List.{ext_get_or, get_or_append_left, get_or-drop, get_or_push, get_or-reverse, length-drop, length-map, length-reverse, length-take-le, reverse-reverse, take-append-drop}
-use Rattle.sss.specs.Cipher.{Word, Words, State, OneToOne, plus, rot8, complement, step, check_step, keystream, ciphertext, masked, mactext}
+use Rattle.sss.specs.Cipher.{Word, Words, State, OneToOne, complement, check_step, keystream, ciphertext, masked, mactext}
 use Rattle.sss.specs.Cipher.{taken, plain_word, fed, all_fed, drawn_from}
 use Rattle.sss.specs.declared.message.MaskedWord.{MaskedWord}
 use Rattle.sss.proofs.Words.{xor_cancel, xor_cancel_left}
+use Rattle.link.specs.Law.{SealedWord}
 use Rattle.link.proofs.Every.{every_drop, every_place, every_take}
-use Rattle.link.proofs.Register.{plus_word, plus_cancel, plus_cancel_left, rot8_cancel, cell_step, step_is, step_size, steps, forgets, remembers, steps_same}
-use Rattle.link.proofs.Received.{Sealed, WireWord, Sized, received, all_received, words_from, step_words, ciphertext_word, plain_is_word, received_sized, all_received_sized}
+use Rattle.link.proofs.Keystream.{keystream_latest}
+use Rattle.link.proofs.Register.{step_size, steps, forgets, remembers, steps_same}
+use Rattle.link.proofs.Received.{WireWord, Sized, received, all_received, words_from, step_words, ciphertext_word, plain_is_word, received_sized, all_received_sized}
 use Rattle.link.proofs.Received.{received_sealed_c, all_received_sealed_r, received_same_r, all_received-++}
 
 module _ (A : ℕ → ℕ) where
@@ -21,7 +23,7 @@ module _ (A : ℕ → ℕ) where
       get_or_append_left (drop 1 c) _ 0 i (omega (arith, length-drop 1 c)) ∙ get_or-drop 1 c i 0 ∙ ap (λ (k : ℕ). get_or c k 0) (omega arith)
 
   -- What enters at the last.
-  check_enters : (c : List ℕ) (M : ℕ) → length c ≡ 17 →
+  pub check_enters : (c : List ℕ) (M : ℕ) → length c ≡ 17 →
       get_or (check_step A c M) 16 0 ≡ bit_xor (bit_xor (bit_xor M (A (get_or c 0 0))) (get_or c 4 0)) (get_or c 15 0)
   unfolding check_step
   check_enters c M e = get_or_push (drop 1 c) _ 0 16 (omega (arith, length-drop 1 c))
@@ -59,35 +61,8 @@ module _ (A : ℕ → ℕ) where
       elim i as (λ j. j < 17 → get_or c j 0 ≡ get_or d j 0) [ zero ↦ λ h. first | suc j ↦ λ h. at j (omega arith) ] in
       ext_get_or 0 c d (lc ∙ sym ld) (λ i h. each i (omega arith))
 
--- The keystream tells the latest word.
-keystream_cells : (f : ℕ → ℕ) → OneToOne f → (r : List ℕ) (x y : ℕ) → Word x → Word y →
-    keystream f (cell_step f r x) ≡ keystream f (cell_step f r y) → x ≡ y
-unfolding keystream cell_step
-keystream_cells f one r x y p q e =
-    let fx : ℕ → ℕ = λ x. f (plus (get_or r 1 0) x) in
-    let in1 : ℕ → ℕ = λ x. plus (fx x) (rot8 (get_or r 2 0)) in
-    let in2 : ℕ → ℕ = λ x. plus (in1 x) (get_or r 7 0) in
-    let in3 : ℕ → ℕ = λ x. plus (in2 x) (get_or r 14 0) in
-    let e1 : rot8 (f (in3 x)) ≡ rot8 (f (in3 y)) = xor_cancel (rot8 (f (in3 x))) (rot8 (f (in3 y))) (get_or r 1 0) e in
-    let w3 : (z : ℕ) → Word (in3 z) = λ z. plus_word (in2 z) (get_or r 14 0) in
-    let w2 : (z : ℕ) → Word (in2 z) = λ z. plus_word (in1 z) (get_or r 7 0) in
-    let w1 : (z : ℕ) → Word (in1 z) = λ z. plus_word (fx z) (rot8 (get_or r 2 0)) in
-    let w0 : (z : ℕ) → Word (fx z) = λ z. one.word (plus (get_or r 1 0) z) (plus_word (get_or r 1 0) z) in
-    let e2 : f (in3 x) ≡ f (in3 y) = rot8_cancel (f (in3 x)) (f (in3 y)) (one.word (in3 x) (w3 x)) (one.word (in3 y) (w3 y)) e1 in
-    let e3 : in3 x ≡ in3 y = one.apart (in3 x) (in3 y) (w3 x) (w3 y) e2 in
-    let e4 : in2 x ≡ in2 y = plus_cancel (in2 x) (in2 y) (get_or r 14 0) (w2 x) (w2 y) e3 in
-    let e5 : in1 x ≡ in1 y = plus_cancel (in1 x) (in1 y) (get_or r 7 0) (w1 x) (w1 y) e4 in
-    let e6 : fx x ≡ fx y = plus_cancel (fx x) (fx y) (rot8 (get_or r 2 0)) (w0 x) (w0 y) e5 in
-    plus_cancel_left (get_or r 1 0) x y p q
-    (one.apart (plus (get_or r 1 0) x) (plus (get_or r 1 0) y) (plus_word (get_or r 1 0) x) (plus_word (get_or r 1 0) y) e6)
-
-keystream_latest : (f : ℕ → ℕ) → OneToOne f → (r : List ℕ) (x y : ℕ) → length r ≡ 17 → Word x → Word y →
-    keystream f (step f r x) ≡ keystream f (step f r y) → x ≡ y
-keystream_latest f one r x y l p q e =
-    keystream_cells f one r x y p q (sym (ap (keystream f) (step_is f r x l)) ∙ e ∙ ap (keystream f) (step_is f r y l))
-
 module _ (f A : ℕ → ℕ) where
-  received_moves : (g : State) (k m i : ℕ) → Sized g → i < 16 → get_or (received f A g k m).c i 0 ≡ get_or g.c (suc i) 0
+  pub received_moves : (g : State) (k m i : ℕ) → Sized g → i < 16 → get_or (received f A g k m).c i 0 ≡ get_or g.c (suc i) 0
   unfolding received taken
   received_moves g k m i h l = check_moves A g.c _ i h.c_size l
 
@@ -101,7 +76,7 @@ module _ (f A : ℕ → ℕ) where
       (s ∙ ap (λ (x : List ℕ). check_step A h.c (mac x)) (sym e))
 
   -- Two words from one state that leave one last check cell are one word.
-  received_last : (g : State) (k m n : ℕ) → Sized g → get_or (received f A g k m).c 16 0 ≡ get_or (received f A g k n).c 16 0 → m ≡ n
+  pub received_last : (g : State) (k m n : ℕ) → Sized g → get_or (received f A g k m).c 16 0 ≡ get_or (received f A g k n).c 16 0 → m ≡ n
   unfolding received taken plain_word masked mactext
   received_last g k m n h e =
       let v : ℕ = keystream f g.r in
@@ -112,7 +87,7 @@ module _ (f A : ℕ → ℕ) where
       xor_cancel m n (bit_and k v) (xor_cancel (bit_xor m (bit_and k v)) (bit_xor n (bit_and k v)) x d)
 
   -- Two words from one state that enter the cipher register as one are one word.
-  received_enters : (g : State) (k m n : ℕ) →
+  pub received_enters : (g : State) (k m n : ℕ) →
       ciphertext f g.r (plain_word f g k m) ≡ ciphertext f g.r (plain_word f g k n) → m ≡ n
   unfolding plain_word masked ciphertext
   received_enters g k m n e =
@@ -120,7 +95,7 @@ module _ (f A : ℕ → ℕ) where
       xor_cancel m n (bit_and k v) (xor_cancel (bit_xor m (bit_and k v)) (bit_xor n (bit_and k v)) v e)
 
 module _ (f A : ℕ → ℕ) (onef : OneToOne f) (oneA : OneToOne A) where
-  all_received_moves : (g : State) (ws : List MaskedWord) (i : ℕ) → Sized g → Every WireWord ws → i + length ws ≤ 16 →
+  pub all_received_moves : (g : State) (ws : List MaskedWord) (i : ℕ) → Sized g → Every WireWord ws → i + length ws ≤ 16 →
       get_or (all_received f A g ws).c i 0 ≡ get_or g.c (i + length ws) 0
   unfolding all_received
   all_received_moves g [] i h l b = ap (λ (k : ℕ). get_or g.c k 0) (omega arith)
@@ -151,7 +126,7 @@ module _ (f A : ℕ → ℕ) (onef : OneToOne f) (oneA : OneToOne A) where
       (keystream_latest f onef g.r (enters m) (enters n) h.r_size (words m wm) (words n wn) e)
 
   -- The word after the altered one: its keystreams differ, and so do the words that enter the check register.
-  second : (g : State) → Sized g → (k m n x y : ℕ) → Word m → Word n → x ≡ 65535 →
+  pub second : (g : State) → Sized g → (k m n x y : ℕ) → Word m → Word n → x ≡ 65535 →
       get_or (received f A (received f A g k m) x y).c 16 0 ≡ get_or (received f A (received f A g k n) x y).c 16 0 → m ≡ n
   second g h k m n x y wm wn sx e =
       let gm = received f A g k m in
@@ -179,7 +154,7 @@ module _ (f A : ℕ → ℕ) (onef : OneToOne f) (oneA : OneToOne A) where
 
   -- Seventeen words on, the check word of the next word is in cell 0, and the cipher registers are equal.
   shows_late : (g : State) → Sized g → (k m n : ℕ) → Word m → Word n → (w : MaskedWord) (us vs : List MaskedWord) → length us ≡ 16 →
-      Every Sealed (w ∷ us) → Every WireWord (w ∷ us) → Every WireWord vs →
+      Every SealedWord (w ∷ us) → Every WireWord (w ∷ us) → Every WireWord vs →
       (all_received f A (received f A g k m) ((w ∷ us) ++ vs)).c ≡ (all_received f A (received f A g k n) ((w ∷ us) ++ vs)).c → m ≡ n
   unfolding all_received
   shows_late g h k m n wm wn w us vs e16 s l l' e =
@@ -205,7 +180,7 @@ module _ (f A : ℕ → ℕ) (onef : OneToOne f) (oneA : OneToOne A) where
       second g h k m n w.mask w.text wm wn s.0
       (sym (first m wm) ∙ ap (λ (z : List ℕ). get_or z 0 0) cs ∙ first n wn)
 
-  shows : (g : State) → Sized g → (k m n : ℕ) → Word m → Word n → (ws : List MaskedWord) → Every Sealed ws → Every WireWord ws →
+  shows : (g : State) → Sized g → (k m n : ℕ) → Word m → Word n → (ws : List MaskedWord) → Every SealedWord ws → Every WireWord ws →
       (all_received f A (received f A g k m) ws).c ≡ (all_received f A (received f A g k n) ws).c → m ≡ n
   shows g h k m n wm wn [] s l e = shows_early g h k m n wm wn [] tt (omega arith) e
   shows g h k m n wm wn (w ∷ ws) s l e =
@@ -214,7 +189,7 @@ module _ (f A : ℕ → ℕ) (onef : OneToOne f) (oneA : OneToOne A) where
         | inr le ↦
             let join : (w ∷ take 16 ws) ++ drop 16 ws ≡ w ∷ ws = ap {B = List MaskedWord} (λ t. w ∷ t) (take-append-drop 16 ws) in
             shows_late g h k m n wm wn w (take 16 ws) (drop 16 ws) (length-take-le 16 ws le)
-            (s.0, every_take Sealed 16 ws s.1) (l.0, every_take WireWord 16 ws l.1) (every_drop WireWord 16 ws l.1)
+            (s.0, every_take SealedWord 16 ws s.1) (l.0, every_take WireWord 16 ws l.1) (every_drop WireWord 16 ws l.1)
             (ap (λ (t : List MaskedWord). (all_received f A (received f A g k m) t).c) join ∙ e ∙
             sym (ap (λ (t : List MaskedWord). (all_received f A (received f A g k n) t).c) join))
       ]
@@ -222,12 +197,12 @@ module _ (f A : ℕ → ℕ) (onef : OneToOne f) (oneA : OneToOne A) where
 -- From one state one word is received otherwise than it was sent, under any mask, and then sealed words as they were sent: the check
 -- registers differ, however many words they are.
 pub altered : (f A : ℕ → ℕ) → OneToOne f → OneToOne A → (g : State) → Sized g → (k m n : ℕ) → Word m → Word n → m ≢ n →
-    (ws : List MaskedWord) → Every Sealed ws → Every WireWord ws →
+    (ws : List MaskedWord) → Every SealedWord ws → Every WireWord ws →
     (all_received f A (received f A g k m) ws).c ≢ (all_received f A (received f A g k n) ws).c
 altered f A onef oneA g h k m n wm wn ne ws s l e = ne (shows f A onef oneA g h k m n wm wn ws s l e)
 
 -- The words that the cipher register is stepped with as the words ps are fed.
-fed_words : (ℕ → ℕ) → List ℕ → List ℕ → List ℕ
+unfoldable pub fed_words : (ℕ → ℕ) → List ℕ → List ℕ → List ℕ
 fed_words f r [] = []
 fed_words f r (p ∷ ps) = ciphertext f r p ∷ fed_words f (fed f r p) ps
 
@@ -236,7 +211,7 @@ unfolding all_fed steps fed fed_words
 fed_steps f r [] = refl
 fed_steps f r (p ∷ ps) = fed_steps f (fed f r p) ps
 
-length_fed : (f : ℕ → ℕ) (r ps : List ℕ) → length (fed_words f r ps) ≡ length ps
+pub length_fed : (f : ℕ → ℕ) (r ps : List ℕ) → length (fed_words f r ps) ≡ length ps
 unfolding fed_words
 length_fed f r [] = refl
 length_fed f r (p ∷ ps) = ap suc (length_fed f (fed f r p) ps)
@@ -270,29 +245,33 @@ reverse_words c h =
     let l' : i < length c = subst (λ (n : ℕ). i < n) (length-reverse c) l in
     subst Word (sym (get_or-reverse c i 0 l')) (h (length c - 1 - i)))
 
+-- Two ends that close into one register are stepped with the same words as their check registers are fed.
+pub drawn_fed : (f : ℕ → ℕ) → OneToOne f → (g h : State) → Sized g → Sized h → drawn_from f g ≡ drawn_from f h →
+    fed_words f (fed f g.r 0) (reverse g.c) ≡ fed_words f (fed f h.r 0) (reverse h.c)
+unfolding drawn_from fed
+drawn_fed f one g h p q d =
+    let r : State → List ℕ = λ x. fed f x.r 0 in
+    let us : State → List ℕ = λ x. fed_words f (r x) (reverse x.c) in
+    let long : (x : State) → Sized x → length (r x) ≡ 17 = λ x k. step_size f x.r (ciphertext f x.r 0) k.r_size in
+    let seventeen : (x : State) → Sized x → length (us x) ≡ 17 =
+    λ x k. length_fed f (r x) (reverse x.c) ∙ length-reverse x.c ∙ k.c_size in
+    let words : (x : State) → Sized x → Words (us x) =
+    λ x k. words_from (us x)
+    (all_fed_words f one (r x) (reverse x.c) (register_fed f one x.r 0 k.r_words (omega arith)) (reverse_words x.c k.c_words)) in
+    remembers f one (r g) (r h) (us g) (us h) (long g p) (long h q) (seventeen g p) (seventeen h q) (words g p) (words h q)
+    (sym (fed_steps f (r g) (reverse g.c)) ∙ d ∙ fed_steps f (r h) (reverse h.c))
+
 -- Two check registers that are closed from one cipher register into one were equal.
 pub drawn_back : (f : ℕ → ℕ) → OneToOne f → (g h : State) → Sized g → Sized h → g.r ≡ h.r → drawn_from f g ≡ drawn_from f h →
     g.c ≡ h.c
-unfolding drawn_from fed
 drawn_back f one g h p q e d =
-    let r : List ℕ = fed f g.r 0 in
-    let k : Words r = register_fed f one g.r 0 p.r_words (omega arith) in
-    let lr : length r ≡ 17 = step_size f g.r (ciphertext f g.r 0) p.r_size in
-    let us : List ℕ = fed_words f r (reverse g.c) in
-    let ws : List ℕ = fed_words f r (reverse h.c) in
-    let same : us ≡ ws =
-    remembers f one r r us ws lr lr
-    (length_fed f r (reverse g.c) ∙ length-reverse g.c ∙ p.c_size)
-    (length_fed f r (reverse h.c) ∙ length-reverse h.c ∙ q.c_size)
-    (words_from us (all_fed_words f one r (reverse g.c) k (reverse_words g.c p.c_words)))
-    (words_from ws (all_fed_words f one r (reverse h.c) k (reverse_words h.c q.c_words)))
-    (sym (fed_steps f r (reverse g.c)) ∙ d ∙ ap (λ (x : List ℕ). all_fed f (fed f x 0) (reverse h.c)) (sym e) ∙
-    fed_steps f r (reverse h.c)) in
-    sym (reverse-reverse g.c) ∙ ap reverse (fed_back f r (reverse g.c) (reverse h.c) same) ∙ reverse-reverse h.c
+    let same : fed_words f (fed f g.r 0) (reverse g.c) ≡ fed_words f (fed f g.r 0) (reverse h.c) =
+    drawn_fed f one g h p q d ∙ ap (λ (x : List ℕ). fed_words f (fed f x 0) (reverse h.c)) (sym e) in
+    sym (reverse-reverse g.c) ∙ ap reverse (fed_back f (fed f g.r 0) (reverse g.c) (reverse h.c) same) ∙ reverse-reverse h.c
 
 -- Seventeen sealed words or more make the cipher registers equal.
 pub all_received_same : (f A : ℕ → ℕ) → OneToOne f → OneToOne A → (g h : State) → Sized g → Sized h → (ws : List MaskedWord) →
-    Every Sealed ws → Every WireWord ws → 17 ≤ length ws → (all_received f A g ws).r ≡ (all_received f A h ws).r
+    Every SealedWord ws → Every WireWord ws → 17 ≤ length ws → (all_received f A g ws).r ≡ (all_received f A h ws).r
 all_received_same f A onef oneA g h p q ws s l n =
     all_received_sealed_r f A onef oneA g ws s l p ∙
     steps_same f g.r h.r (map (λ w. w.text) ws) p.r_size q.r_size
@@ -301,7 +280,7 @@ all_received_same f A onef oneA g h p q ws s l n =
 
 -- And after seventeen or more of those the tags are drawn from different registers.
 pub altered_drawn : (f A : ℕ → ℕ) → OneToOne f → OneToOne A → (g : State) → Sized g → (k m n : ℕ) → Word m → Word n → m ≢ n →
-    (ws : List MaskedWord) → Every Sealed ws → Every WireWord ws → 17 ≤ length ws →
+    (ws : List MaskedWord) → Every SealedWord ws → Every WireWord ws → 17 ≤ length ws →
     drawn_from f (all_received f A (received f A g k m) ws) ≢ drawn_from f (all_received f A (received f A g k n) ws)
 altered_drawn f A onef oneA g h k m n wm wn ne ws s l long e =
     let gm = received f A g k m in

@@ -44,6 +44,11 @@ module _ {X : Type 0} (P : X → Type 0) where
   every_one (y ∷ xs) x h (zero, lt, is) = subst P is h.0
   every_one (y ∷ xs) x h (suc k, lt, is) = every_one xs x h.1 (k, omega arith, is)
 
+  pub every_at : (xs : List X) (i : ℕ) (d : X) → i < length xs → Every P xs → P (get_or xs i d)
+  every_at [] i d lt h = absurd (omega arith)
+  every_at (x ∷ xs) zero d lt h = h.0
+  every_at (x ∷ xs) (suc i) d lt h = every_at xs i d (omega arith) h.1
+
   pub every_place : (xs : List X) (d : X) → ((i : ℕ) → i < length xs → P (get_or xs i d)) → Every P xs
   every_place [] d h = tt
   every_place (x ∷ xs) d h = (h 0 (omega arith), every_place xs d (λ i lt. h (suc i) (omega arith)))

@@ -3,8 +3,10 @@ pub mod Verdicts
 pub mod Engines
 pub mod Calls
 pub mod Register
+pub mod Keystream
 pub mod Received
 pub mod Altered
+pub mod Drawn
 pub mod Invariants
 pub mod Sealing
 pub mod Hearing

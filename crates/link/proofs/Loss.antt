@@ -305,10 +305,10 @@ module _ (f A : ℕ → ℕ) (onef : OneToOne f) (oneA : OneToOne A) where
             one_altered_check f A onef oneA (begun f A u.message.nonce) o.sized (map wire_of u.message.words)
             (map heard_wire u.stretch.words) o.sent_fit o.heard_fit a
             (ap (λ (x : State). x.c) (sym o.sealer_is) ∙ e ∙ ap (λ (x : State). x.c) o.receiver_is);
-        altered_tag = λ u a n e.
+        altered_tag = λ u a e.
             let o = unbroken run u in
             one_altered_tag f A onef oneA (begun f A u.message.nonce) o.sized (map wire_of u.message.words)
-            (map heard_wire u.stretch.words) o.sent_fit o.heard_fit a n
+            (map heard_wire u.stretch.words) o.sent_fit o.heard_fit a
             (ap (drawn_from f) (sym o.sealer_is) ∙ e ∙ ap (drawn_from f) o.receiver_is);
         published =
             every_so (SealedMessage f A) (λ m h. sym (sealed_wires f A (begun f A m.nonce) m.words h.1)) (messages log) sealed;

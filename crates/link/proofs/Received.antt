@@ -6,14 +6,11 @@ use Rattle.std.proofs.lemmas.List.{length_push, length-drop}
 use Rattle.sss.specs.Cipher.{Word, Words, State, OneToOne, plus, rot8, complement, words_of, step, check_step, keystream, ciphertext, masked, mactext}
 use Rattle.sss.specs.Cipher.{taken, wire_word, plain_word, zeroed, nonce_taken, nonces_taken, open_zeros, begun, all_taken, plain_words}
 use Rattle.sss.specs.declared.message.MaskedWord.{MaskedWord}
+use Rattle.link.specs.Law.{SealedWord}
 use Rattle.sss.proofs.Words.{rotate_word, xor_undo, xor_word}
 use Rattle.sss.proofs.Returned.{word_back}
 use Rattle.link.proofs.Every.{every_drop, every_push, every_set}
 use Rattle.link.proofs.Register.{plus_word, step_size, steps}
-
--- Each bit of a word is sealed.
-abbrev pub Sealed : MaskedWord → Type 0
-Sealed w = w.mask ≡ 65535
 
 -- What is on the wire is a word.
 abbrev pub WireWord : MaskedWord → Type 0
@@ -194,7 +191,7 @@ module _ (f A : ℕ → ℕ) (onef : OneToOne f) (oneA : OneToOne A) where
       ap (bit_xor wire) (and_all v (keystream_word f onef g.r h.r_words)))
 
   -- Sealed words step the cipher register by themselves.
-  pub all_received_sealed_r : (g : State) (ws : List MaskedWord) → Every Sealed ws → Every WireWord ws → Sized g →
+  pub all_received_sealed_r : (g : State) (ws : List MaskedWord) → Every SealedWord ws → Every WireWord ws → Sized g →
       (all_received f A g ws).r ≡ steps f g.r (map (λ w. w.text) ws)
   unfolding all_received steps
   all_received_sealed_r g [] s l h = refl

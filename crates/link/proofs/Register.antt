@@ -1,6 +1,7 @@
 -- Seventeen steps of the cipher register forget the register they began with, and remember their words.
-use Rattle.std.proofs.Common.{◌≡◌, ℕ, zero, suc, ◌+◌, ◌*◌, ◌/◌, ◌%◌, ◌<◌, ◌≤◌, List, [], ◌∷◌, ◌++◌, length, get_or, take, drop, sym, refl, ap, ◌∙◌, subst, arith, take-append-drop, length-take, drop-cons}
+use Rattle.std.proofs.Common.{◌≡◌, ℕ, zero, suc, ◌+◌, ◌*◌, ◌/◌, ◌%◌, ◌<◌, ◌≤◌, List, [], ◌∷◌, ◌++◌, length, get_or, take, drop, sym, refl, ap, ◌∙◌, subst, inl, inr, arith, drop-cons}
 use lib.Seq.{take-length}
+use Rattle.std.proofs.lemmas.Bool.{cases_lt}
 use Rattle.sss.specs.Cipher.{Word, Words, plus, rotate, rot8, OneToOne, step}
 
 -- A sum is a word, and a word can be taken from both sides of two equal sums.
@@ -67,11 +68,11 @@ unfoldable pub steps : (ℕ → ℕ) → List ℕ → List ℕ → List ℕ
 steps f r [] = r
 steps f r (c ∷ cs) = steps f (step f r c) cs
 
-cell_steps : (ℕ → ℕ) → List ℕ → List ℕ → List ℕ
+unfoldable pub cell_steps : (ℕ → ℕ) → List ℕ → List ℕ → List ℕ
 cell_steps f r [] = r
 cell_steps f r (c ∷ cs) = cell_steps f (cell_step f r c) cs
 
-steps_are : (f : ℕ → ℕ) (r us : List ℕ) → length r ≡ 17 → steps f r us ≡ cell_steps f r us
+pub steps_are : (f : ℕ → ℕ) (r us : List ℕ) → length r ≡ 17 → steps f r us ≡ cell_steps f r us
 unfolding steps cell_steps
 steps_are f r [] e = refl
 steps_are f r (u ∷ us) e =
@@ -81,22 +82,37 @@ forgets_cells : (f : ℕ → ℕ) (r s us : List ℕ) → cell_steps f r (cells 
 unfolding cell_step cell_steps
 forgets_cells f r s us = refl
 
--- Seventeen steps with the same words end in the same register.
+-- What n steps with the same words leave equal is equal after more of them.
+pub lasting : (f : ℕ → ℕ) (n : ℕ) {X : Type 0} (P : List ℕ → X) →
+    ((r s us : List ℕ) → P (cell_steps f r (cells n 0 us)) ≡ P (cell_steps f s (cells n 0 us))) →
+    (r s us : List ℕ) → length r ≡ 17 → length s ≡ 17 → n ≤ length us → P (steps f r us) ≡ P (steps f s us)
+unfolding steps cell_steps
+lasting f n P base r s [] er es h = subst (λ (x : List ℕ). P (cell_steps f r x) ≡ P (cell_steps f s x)) (cells_all n [] (omega arith)) (base r s [])
+lasting f n P base r s (u ∷ us) er es h =
+    elim (cases_lt (length us) n) [
+      | inl lt ↦
+          ap P (steps_are f r (u ∷ us) er) ∙
+          subst (λ (x : List ℕ). P (cell_steps f r x) ≡ P (cell_steps f s x)) (cells_all n (u ∷ us) (omega arith)) (base r s (u ∷ us)) ∙
+          sym (ap P (steps_are f s (u ∷ us) es))
+      | inr le ↦ lasting f n P base (step f r u) (step f s u) us (step_size f r u er) (step_size f s u es) le
+    ]
+
+-- Seventeen steps or more with the same words end in the same register.
+pub steps_same : (f : ℕ → ℕ) (r s us : List ℕ) → length r ≡ 17 → length s ≡ 17 → 17 ≤ length us → steps f r us ≡ steps f s us
+steps_same f r s us er es h = lasting f 17 (λ (x : List ℕ). x) (forgets_cells f) r s us er es h
+
 pub forgets : (f : ℕ → ℕ) (r s us : List ℕ) → length r ≡ 17 → length s ≡ 17 → length us ≡ 17 → steps f r us ≡ steps f s us
-forgets f r s us er es eu =
-    steps_are f r us er ∙
-    subst (λ (x : List ℕ). cell_steps f r x ≡ cell_steps f s x) (cells_all 17 us eu) (forgets_cells f r s us) ∙
-    sym (steps_are f s us es)
+forgets f r s us er es e = steps_same f r s us er es (omega arith)
 
 module _ (f : ℕ → ℕ) (one : OneToOne f) where
   -- A word that entered before another, seen after the later one was added to it.
   back_plus : (u w a b : ℕ) → Word u → Word w → a ≡ b → plus u (f (rot8 a)) ≡ plus w (f (rot8 b)) → u ≡ w
   back_plus u w a b p q e h = plus_cancel u w (f (rot8 a)) p q (h ∙ ap (λ (x : ℕ). plus w (f (rot8 x))) (sym e))
 
-  back_f : (u w a b : ℕ) → f (plus u a) ≡ f (plus w b) → plus u a ≡ plus w b
+  pub back_f : (u w a b : ℕ) → f (plus u a) ≡ f (plus w b) → plus u a ≡ plus w b
   back_f u w a b h = one.apart (plus u a) (plus w b) (plus_word u a) (plus_word w b) h
 
-  back_rot : (u w a b : ℕ) → rot8 (f (plus u a)) ≡ rot8 (f (plus w b)) → f (plus u a) ≡ f (plus w b)
+  pub back_rot : (u w a b : ℕ) → rot8 (f (plus u a)) ≡ rot8 (f (plus w b)) → f (plus u a) ≡ f (plus w b)
   back_rot u w a b h =
       rot8_cancel (f (plus u a)) (f (plus w b)) (one.word (plus u a) (plus_word u a)) (one.word (plus w b) (plus_word w b)) h
 
@@ -149,12 +165,3 @@ steps-++ f r (u ∷ us) ws = steps-++ f (step f r u) us ws
 pub steps_push : (f : ℕ → ℕ) (r us : List ℕ) (m : ℕ) → steps f r (us ++ m ∷ []) ≡ step f (steps f r us) m
 unfolding steps
 steps_push f r us m = steps-++ f r us (m ∷ [])
-
--- Seventeen steps or more with the same words.
-pub steps_same : (f : ℕ → ℕ) (r s us : List ℕ) → length r ≡ 17 → length s ≡ 17 → 17 ≤ length us → steps f r us ≡ steps f s us
-steps_same f r s us er es h =
-    let j : take 17 us ++ drop 17 us ≡ us = take-append-drop 17 us in
-    let l : length (take 17 us) ≡ 17 = length-take 17 us ∙ omega arith in
-    sym (ap (steps f r) j) ∙ steps-++ f r (take 17 us) (drop 17 us) ∙
-    ap (λ (x : List ℕ). steps f x (drop 17 us)) (forgets f r s (take 17 us) er es l) ∙
-    sym (steps-++ f s (take 17 us) (drop 17 us)) ∙ ap (steps f s) j

@@ -212,12 +212,11 @@ pub record Law (f A : ℕ → ℕ) (log : List Entry) (at_sealer at_receiver : S
   pub no_false_reading : (a : Every (Assigned log) (stretches log)) → false_in_all log (stretches log) a ≡ 0
   -- 4. Exactly these words are withheld, and each answer that withholds carries its row.
   pub withheld : Every Withholds (stretches log)
-  -- 5. One altered word shows in the check registers just before closing, and with seventeen or more later words in the registers that the
-  -- tags are drawn from.
+  -- 5. One altered word shows in the check registers just before closing, and in the registers that the tags are drawn from, however many words
+  -- follow it.
   pub altered_check : (u : Unbroken log) → OneAltered (map wire_of u.message.words) (map heard_wire u.stretch.words) →
       (sealer_registers f A u.sealer_before).c ≢ (receiver_registers f A u.receiver_before).c
-  pub altered_tag : (u : Unbroken log) → (a : OneAltered (map wire_of u.message.words) (map heard_wire u.stretch.words)) →
-      17 ≤ length a.later →
+  pub altered_tag : (u : Unbroken log) → OneAltered (map wire_of u.message.words) (map heard_wire u.stretch.words) →
       drawn_from f (sealer_registers f A u.sealer_before) ≢ drawn_from f (receiver_registers f A u.receiver_before)
   -- 6. Wire words and tags are those of the published cipher, and each reading is what it makes of the wire word after the words received
   -- before.
