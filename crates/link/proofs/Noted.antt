@@ -1,9 +1,9 @@
 -- One call more, noted.
 use Rattle.std.proofs.Common.{◌≡◌, ℕ, List, [], ◌∷◌, ◌++◌, length, Option, None, sym, refl, ap, ◌∙◌, subst, append_assoc, append-nil, arith}
 use Rattle.std.proofs.lemmas.List.Sums.{fold_push}
-use Rattle.link.specs.Ends.{words_open}
+use Rattle.link.specs.Ends.{open_count}
 use Rattle.link.specs.Histories.{EntryOf}
-use Rattle.link.specs.Noting.{Notes, NotesAll, open_after, open_words}
+use Rattle.link.specs.Noting.{Notes, NotesAll, open_then, open_words}
 use Rattle.link.specs.declared.call.Call.{Call}
 use Rattle.link.specs.declared.call.Call.TheVariants.{OnSealer, OnReceiver}
 use Rattle.link.specs.declared.call.Entry.{Entry}
@@ -12,9 +12,9 @@ use Rattle.link.specs.declared.history.History.{History}
 use Rattle.link.proofs.Withheld.{EntryLeads}
 
 -- The open message after one entry more.
-open_push : (log : List Entry) (e : Entry) → open_words (log ++ e ∷ []) ≡ open_after (open_words log) e
+open_push : (log : List Entry) (e : Entry) → open_words (log ++ e ∷ []) ≡ open_then (open_words log) e
 unfolding open_words
-open_push log e = fold_push open_after None log e
+open_push log e = fold_push open_then None log e
 
 -- One call more, and its entry.
 notes_push : (before : List Entry) (xs : List Call) (es : List Entry) (x : Call) (e : Entry) → NotesAll before xs es → Notes (before ++ es) x e →
@@ -53,25 +53,25 @@ module _ {SK SC RK RC : Type 0} (h h' : History SK SC RK RC) where
   entry_leads (OnReceiver x) (OfReceiver e) n = n.1
 
   -- What it says of the open message, and of its call.
-  entry_opens : (x : Call) (e : Entry) → EntryOf h x e h' → open_after (words_open h.sealer) e ≡ words_open h'.sealer
+  entry_opens : (x : Call) (e : Entry) → EntryOf h x e h' → open_then (open_count h.sealer) e ≡ open_count h'.sealer
   entry_opens (OnSealer x) (OfSealer e) n = sym n.1
   entry_opens (OnSealer x) (OfReceiver e) n = absurd n
   entry_opens (OnReceiver x) (OfSealer e) n = absurd n
   entry_opens (OnReceiver x) (OfReceiver e) n = sym n.2
 
-  entry_notes : (log : List Entry) (x : Call) (e : Entry) → open_words log ≡ words_open h.sealer → EntryOf h x e h' → Notes log x e
+  entry_notes : (log : List Entry) (x : Call) (e : Entry) → open_words log ≡ open_count h.sealer → EntryOf h x e h' → Notes log x e
   entry_notes log (OnSealer x) (OfSealer e) at n = rw at n.0
   entry_notes log (OnSealer x) (OfReceiver e) at n = absurd n
   entry_notes log (OnReceiver x) (OfSealer e) at n = absurd n
   entry_notes log (OnReceiver x) (OfReceiver e) at n = n.0
 
   -- One call more is made.
-  pub one_made : (all rest rest' : List Call) (log log' : List Entry) (x : Call) (e : Entry) → Made all rest log (words_open h.sealer) →
-      rest ≡ x ∷ rest' → log' ≡ log ++ e ∷ [] → EntryOf h x e h' → Made all rest' log' (words_open h'.sealer)
+  pub one_made : (all rest rest' : List Call) (log log' : List Entry) (x : Call) (e : Entry) → Made all rest log (open_count h.sealer) →
+      rest ≡ x ∷ rest' → log' ≡ log ++ e ∷ [] → EntryOf h x e h' → Made all rest' log' (open_count h'.sealer)
   one_made all rest rest' log log' x e m first added n =
       record {
         made = m.made ++ x ∷ [];
         those = m.those ∙ ap (λ (z : List Call). m.made ++ z) first ∙ sym (append_assoc m.made (x ∷ []) rest');
         noted = rw added (notes_push [] m.made log x e m.noted (entry_notes log x e m.open_is n));
-        open_is = ap open_words added ∙ open_push log e ∙ ap (λ (o : Option ℕ). open_after o e) m.open_is ∙ entry_opens x e n;
+        open_is = ap open_words added ∙ open_push log e ∙ ap (λ (o : Option ℕ). open_then o e) m.open_is ∙ entry_opens x e n;
       }

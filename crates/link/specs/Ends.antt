@@ -11,9 +11,9 @@ use Rattle.link.specs.Engines.{Worked}
 use Rattle.link.specs.declared.engine.Engine.{Engine}
 use Rattle.link.specs.declared.issuer.Nonce.{Nonce}
 use Rattle.link.specs.declared.call.SealerCall.{SealerCall}
-use Rattle.link.specs.declared.call.SealerCall.TheVariants.{Begin, Word as Seal, Finish, Abandon}
+use Rattle.link.specs.declared.call.SealerCall.TheVariants as on_sealer
 use Rattle.link.specs.declared.call.ReceiverCall.{ReceiverCall}
-use Rattle.link.specs.declared.call.ReceiverCall.TheVariants.{Begin as Hear, Word as Take, Break, Finish as End}
+use Rattle.link.specs.declared.call.ReceiverCall.TheVariants as on_receiver
 use Rattle.link.specs.declared.call.Call.{Call}
 use Rattle.link.specs.declared.call.Call.TheVariants.{OnSealer, OnReceiver}
 use Rattle.link.specs.declared.call.Entry.{Entry}
@@ -54,9 +54,9 @@ abbrev pub receiving : {K C : Type 0} → Receiver K C → ReceiverState
 receiving r = record { reception = r.footing.reception; registers = r.engine.registers }
 
 -- How many words the open message of the code's sealer has, if one is open.
-abbrev pub words_open : {K C : Type 0} → Sealer K C → Option ℕ
-words_open (Ready s) = None
-words_open (Open m) = Some m.words
+abbrev pub open_count : {K C : Type 0} → Sealer K C → Option ℕ
+open_count (Ready s) = None
+open_count (Open m) = Some m.words
 
 -- The sealer's engine, whichever state it is in.
 abbrev pub sealer_engine : {K C : Type 0} → Sealer K C → Engine K C
@@ -65,33 +65,33 @@ sealer_engine (Open m) = m.engine
 
 -- A call on the sealer: where it then stands, and what the log notes.
 unfoldable pub sealer_made : (ℕ → ℕ) → (ℕ → ℕ) → SealerState → SealerCall Nonce → SealerState × SealerEntry
-sealer_made f A (ready g) (Begin n) = (in_message 0 (begun f A (nonce_bytes n)), sealer.Begun (nonce_bytes n))
-sealer_made f A (ready g) (Seal mask p) = (ready g, sealer.OutOfTurn (Seal mask p))
-sealer_made f A (ready g) Finish = (ready g, sealer.OutOfTurn Finish)
-sealer_made f A (ready g) Abandon = (ready g, sealer.OutOfTurn Abandon)
-sealer_made f A (in_message n g) (Begin k) = (in_message n g, sealer.OutOfTurn (Begin (nonce_bytes k)))
-sealer_made f A (in_message n g) (Seal mask p) =
+sealer_made f A (ready g) (on_sealer.Begin n) = (in_message 0 (begun f A (nonce_bytes n)), sealer.Begun (nonce_bytes n))
+sealer_made f A (ready g) (on_sealer.Word mask p) = (ready g, sealer.OutOfTurn (on_sealer.Word mask p))
+sealer_made f A (ready g) on_sealer.Finish = (ready g, sealer.OutOfTurn on_sealer.Finish)
+sealer_made f A (ready g) on_sealer.Abandon = (ready g, sealer.OutOfTurn on_sealer.Abandon)
+sealer_made f A (in_message n g) (on_sealer.Begin k) = (in_message n g, sealer.OutOfTurn (on_sealer.Begin (nonce_bytes k)))
+sealer_made f A (in_message n g) (on_sealer.Word mask p) =
     cond (nat_lt n 65536) (in_message (n + 1) (taken f A g mask p), sealer.Sealed mask p (wire_word f g mask p))
     (in_message n g, sealer.Refused mask p Full)
-sealer_made f A (in_message n g) Finish = (ready zeroed, sealer.Finished (tag f g))
-sealer_made f A (in_message n g) Abandon = (ready zeroed, sealer.Abandoned)
+sealer_made f A (in_message n g) on_sealer.Finish = (ready zeroed, sealer.Finished (tag f g))
+sealer_made f A (in_message n g) on_sealer.Abandon = (ready zeroed, sealer.Abandoned)
 
--- Whether nonce bytes are taken: an even number of them, at most 32.
+-- Whether nonce bytes fit, as a test: an even number of them, at most 32.
 abbrev pub nonce_fits : List ℕ → Bool
 nonce_fits bytes = length bytes % 2 == 0 && nat_le (length bytes) 32
 
 -- A call on the receiver: where it then stands, and what the log notes.
 unfoldable pub receiver_made : (ℕ → ℕ) → (ℕ → ℕ) → ReceiverState → ReceiverCall → ReceiverState × ReceiverEntry
-receiver_made f A s (Hear nonce) =
+receiver_made f A s (on_receiver.Begin nonce) =
     cond (nonce_fits (vec_items nonce))
     (record { reception = Whole; registers = begun f A (vec_items nonce) }, receiver.Begun nonce)
     (s, receiver.Refused nonce UnfitNonce)
-receiver_made f A s (Take mask m) =
+receiver_made f A s (on_receiver.Word mask m) =
     let p : ℕ = plain_word f s.registers mask m in
     let d = decided s.reception (event.Word mask) in
     (record { reception = d.0; registers = taken f A s.registers mask p }, receiver.Received mask m (answer_of d.1 p))
-receiver_made f A s Break = (record { reception = Lost 0; registers = s.registers }, receiver.BrokenOff)
-receiver_made f A s (End t) = (
+receiver_made f A s on_receiver.Break = (record { reception = Lost 0; registers = s.registers }, receiver.BrokenOff)
+receiver_made f A s (on_receiver.Finish t) = (
   record { reception = Lost 0; registers = zeroed },
   receiver.Finished t (verdict_of (decided s.reception event.Finish).1 t (tag f s.registers)),
 )
@@ -134,17 +134,17 @@ history f A f' A' calls = fold (one_call f A f' A') (new_ends, []) calls
 
 -- The plaintext of a call is a word, as its type says; of its mask nothing is needed.
 abbrev pub SealerCallFits : SealerCall Nonce → Type 0
-SealerCallFits (Begin n) = Unit {0}
-SealerCallFits (Seal mask p) = Word p
-SealerCallFits Finish = Unit {0}
-SealerCallFits Abandon = Unit {0}
+SealerCallFits (on_sealer.Begin n) = Unit {0}
+SealerCallFits (on_sealer.Word mask p) = Word p
+SealerCallFits on_sealer.Finish = Unit {0}
+SealerCallFits on_sealer.Abandon = Unit {0}
 
 -- Nonce bytes are bytes, wire words are words.
 abbrev pub ReceiverCallFits : ReceiverCall → Type 0
-ReceiverCallFits (Hear nonce) = Every (λ b. b < 256) (vec_items nonce)
-ReceiverCallFits (Take mask m) = Word m
-ReceiverCallFits Break = Unit {0}
-ReceiverCallFits (End t) = Unit {0}
+ReceiverCallFits (on_receiver.Begin nonce) = Every (λ b. b < 256) (vec_items nonce)
+ReceiverCallFits (on_receiver.Word mask m) = Word m
+ReceiverCallFits on_receiver.Break = Unit {0}
+ReceiverCallFits (on_receiver.Finish t) = Unit {0}
 
 -- The same of a call on either end.
 abbrev pub CallFits : Call → Type 0

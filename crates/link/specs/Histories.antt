@@ -7,10 +7,10 @@ use Rattle.sss.specs.Asked.{Keeps}
 use Rattle.sss.specs.Cipher.{Word}
 use Rattle.sss.specs.declared.keyed.KeyedFunction.{Ghosts as Keyed}
 use Rattle.sss.specs.declared.coefficient.Coefficient.{Ghosts as Coefficient}
-use Rattle.link.specs.Ends.{Ends, Leads, history, one_call, receiving, registers_of, sealer_engine, sealing, words_open}
-use Rattle.link.specs.Noting.{NotesAll, NotesReceiver, NotesSealer, open_then, open_words}
-use Rattle.link.specs.Log.{Stretch, stretches}
-use Rattle.link.specs.Law.{BrokenExactly, Law, StandsAfter, Withholds}
+use Rattle.link.specs.Ends.{Ends, Leads, history, one_call, receiving, registers_of, sealer_engine, sealing, open_count}
+use Rattle.link.specs.Noting.{NotesAll, NotesReceiver, NotesSealer, open_noted, open_words}
+use Rattle.link.specs.Log.{stretches}
+use Rattle.link.specs.Law.{BrokenExactly, Law, OfLatest, StandsAfter, Withholds}
 use Rattle.link.specs.Meaning.{function_of}
 use Rattle.link.specs.declared.call.Call.{Call}
 use Rattle.link.specs.declared.call.Call.TheVariants.{OnSealer, OnReceiver}
@@ -42,12 +42,12 @@ module _ {SK SC RK RC : Type 0} where
   -- The entry of a call on either end, and what it says of where both then stand, whatever the keyed functions answer.
   abbrev pub EntryOf : History SK SC RK RC → Call → Entry → History SK SC RK RC → Type 0
   EntryOf h (OnSealer x) (OfSealer e) h' =
-      NotesSealer (words_open h.sealer) x e × (words_open h'.sealer ≡ open_then (words_open h.sealer) e) ×
+      NotesSealer (open_count h.sealer) x e × (open_count h'.sealer ≡ open_noted (open_count h.sealer) e) ×
       (h'.receiver.footing.reception ≡ h.receiver.footing.reception)
   EntryOf h (OnSealer x) (OfReceiver e) h' = ⊥
   EntryOf h (OnReceiver x) (OfSealer e) h' = ⊥
   EntryOf h (OnReceiver x) (OfReceiver e) h' =
-      NotesReceiver x e × Leads h.receiver.footing.reception e h'.receiver.footing.reception × (words_open h'.sealer ≡ words_open h.sealer)
+      NotesReceiver x e × Leads h.receiver.footing.reception e h'.receiver.footing.reception × (open_count h'.sealer ≡ open_count h.sealer)
 
   -- One entry more.
   abbrev pub OneEntry : History SK SC RK RC → Call → History SK SC RK RC → Type 0
@@ -69,11 +69,11 @@ module _ {SK SC RK RC : Type 0} where
   -- WHERE BOTH ENDS STAND, with no assumption: whether a message is open at the sealer, and with how many words, and the receiver's state and
   -- row, by the log.
   pub record StandsAsNoted (h : History SK SC RK RC) : Type 0 where
-    pub sealer : words_open h.sealer ≡ open_words (vec_items h.log)
-    pub receiver : (s : Stretch) × (others : List Stretch) × (stretches (vec_items h.log) ≡ s ∷ others) × StandsAfter s h.receiver.footing.reception
+    pub sealer : open_count h.sealer ≡ open_words (vec_items h.log)
+    pub receiver : OfLatest (vec_items h.log) (λ s. StandsAfter s h.receiver.footing.reception)
 
   module _ (F : Keyed SK) (L : Coefficient SC) (G : Keyed RK) (M : Coefficient RC) where
-    -- The functions of a history mean what these mean, each of which an end works with, and its coefficients are these.
+    -- Each end's function means what the one given means, and is sound if that was; each end's coefficient is the one given.
     pub record SameMeaning (s : SK × SC) (r : RK × RC) (h : History SK SC RK RC) : Type 0 where
       pub sealer : Keeps F s.0 (sealer_engine h.sealer).function
       pub sealer_same : (sealer_engine h.sealer).coefficient ≡ s.1

@@ -17,7 +17,7 @@ use Rattle.link.specs.declared.call.Entry.TheVariants.{OfSealer, OfReceiver}
 use Rattle.link.specs.declared.call.SealerEntry.TheVariants as sealer
 use Rattle.link.specs.declared.call.ReceiverEntry.TheVariants as receiver
 
--- What the log held at some moment of the run: a beginning of it.
+-- One log is a beginning of another: what that held at some moment of the run.
 abbrev pub Beginning : List Entry → List Entry → Type 0
 Beginning log early = (later : List Entry) × (log ≡ early ++ later)
 
@@ -29,12 +29,12 @@ SealedWord w = w.mask ≡ 65535
 abbrev pub latest_17 : List MaskedWord → List MaskedWord
 latest_17 ws = drop (length ws - 17) ws
 
--- There are seventeen, and they are sealed.
+-- There are seventeen words or more, and the latest seventeen are sealed.
 pub record SeventeenSealed (ws : List MaskedWord) : Type 0 where
   pub enough : 17 ≤ length ws
   pub sealed : Every SealedWord (latest_17 ws)
 
--- The wire words alone.
+-- What was on the wire of some words, without their masks.
 abbrev pub wires : List MaskedWord → List ℕ
 wires ws = map (λ w. w.text) ws
 
@@ -42,7 +42,7 @@ wires ws = map (λ w. w.text) ws
 abbrev pub sent_wires : List Entry → List MaskedWord
 sent_wires log = map wire_of (sent_since log).words
 
--- The same of the receiver.
+-- The words of the receiver since its latest reset, as they came.
 abbrev pub heard_wires : List Entry → List MaskedWord
 heard_wires log = map heard_wire (heard_since log).words
 
@@ -77,7 +77,7 @@ false_readings [] ys = 0
 false_readings (x ∷ xs) [] = 0
 false_readings (x ∷ xs) (y ∷ ys) = false_reading x.answer y.plain + false_readings xs ys
 
--- An assignment of stretches to messages: each stretch is placed, or left out.
+-- One stretch placed in a message, or left out: an assignment has one of these for each stretch of the run.
 abbrev pub Assigned : List Entry → Stretch → Type 0
 Assigned log s = Option (Placed log s)
 
@@ -108,7 +108,7 @@ pub record RowIs (n : ℕ) (ws : List Heard) : Type 0 where
   pub sealed : Every SealedHeard those
   pub no_more : (c : List Heard) (y : Heard) → before ≡ c ++ y ∷ [] → ¬ SealedHeard y
 
--- A word is withheld, and the answer carries the row up to and with the word itself.
+-- After the words front of its stretch a word is withheld, and the answer carries the row with which these and the word itself end.
 abbrev pub IsWithheld : List Heard → Heard → Type 0
 IsWithheld front w = (n : ℕ) × (w.answer ≡ Withheld n) × RowIs n (front ++ w ∷ [])
 
@@ -116,25 +116,33 @@ IsWithheld front w = (n : ℕ) × (w.answer ≡ Withheld n) × RowIs n (front ++
 abbrev pub HandedOut : Heard → Type 0
 HandedOut w = (p : ℕ) × (w.answer ≡ Reading p)
 
+-- A stretch that came after another mark than a begin.
+abbrev pub AfterOther : Stretch → Type 0
+AfterOther s = (nonce : List ℕ) → s.mark ≢ begin nonce
+
 -- Which words of a stretch are withheld: after a begin none; after any other mark a word is withheld exactly where no seventeen sealed words
 -- in a row stand before it in the stretch, so the seventeenth is the last.
 pub record Withholds (s : Stretch) : Type 0 where
   pub after_begin : (nonce : List ℕ) → s.mark ≡ begin nonce → Every HandedOut s.words
-  pub after_other : ((nonce : List ℕ) → s.mark ≢ begin nonce) → (front : List Heard) (w : Heard) (back : List Heard) →
+  pub after_other : AfterOther s → (front : List Heard) (w : Heard) (back : List Heard) →
       s.words ≡ front ++ w ∷ back → (IsWithheld front w × ¬ RowOf17 front) ⊎ (HandedOut w × RowOf17 front)
 
 -- Where a receiver stands after the words of a stretch: whole after a begin. After any other mark it is caught where seventeen sealed words in
 -- a row stand among them, and else lost with their row.
 pub record StandsAfter (s : Stretch) (reception : Reception) : Type 0 where
   pub after_begin : (nonce : List ℕ) → s.mark ≡ begin nonce → reception ≡ Whole
-  pub after_other : ((nonce : List ℕ) → s.mark ≢ begin nonce) →
+  pub after_other : AfterOther s →
       ((reception ≡ Caught) × RowOf17 s.words) ⊎ ((n : ℕ) × (reception ≡ Lost n) × RowIs n s.words × ¬ RowOf17 s.words)
+
+-- This holds of the latest stretch of a log.
+abbrev pub OfLatest : List Entry → (Stretch → Type 0) → Type 0
+OfLatest log Holds = (s : Stretch) × (others : List Stretch) × (stretches log ≡ s ∷ others) × Holds s
 
 -- BROKEN MESSAGES. A verdict is "broken" exactly where the stretch that it ends, the latest of the log before it, came after another mark than
 -- a begin.
 abbrev pub BrokenExactly : List Entry → Type 0
 BrokenExactly log = (before later : List Entry) (tag : List ℕ) (verdict : Verdict) → log ≡ before ++ OfReceiver (receiver.Finished tag verdict) ∷ later →
-    (s : Stretch) × (others : List Stretch) × (stretches before ≡ s ∷ others) × ((verdict ≡ Broken) ↔ ((nonce : List ℕ) → s.mark ≢ begin nonce))
+    OfLatest before (λ s. (verdict ≡ Broken) ↔ AfterOther s)
 
 -- ALTERED WORDS. Of the words sent and the words received exactly one differs, all masks are as sent, none is missing or added, and all
 -- later words are sealed.
@@ -150,8 +158,8 @@ pub record OneAltered (sent heard : List MaskedWord) : Type 0 where
   pub later_sealed : Every SealedWord later
 
 -- Both ends finished a message: what the log has before the sealer's finish and before the receiver's, the message, and the stretch that the
--- receiver ended. The message is unbroken: that stretch came after a begin with the message's nonce, so no break and no other begin came
--- between.
+-- receiver ended. The message is unbroken: that stretch came after a begin with the message's nonce, so no break, no other begin and no other
+-- finish came between.
 pub record Unbroken (log : List Entry) : Type 0 where
   pub sealer_before : List Entry
   pub sealer_later : List Entry
@@ -170,16 +178,16 @@ pub record Unbroken (log : List Entry) : Type 0 where
   pub stretch_is : stretches receiver_before ≡ stretch ∷ others
   pub begun_with : stretch.mark ≡ begin message.nonce
 
--- THE PUBLISHED CIPHER. The wire words of a message are those of its nonce, masks and plaintexts.
+-- THE PUBLISHED CIPHER. The wire words of a message are those that the published cipher gives for its nonce, masks and plaintexts.
 abbrev pub Published : (ℕ → ℕ) → (ℕ → ℕ) → Message → Type 0
 Published f A m = map wire_of m.words ≡ sealed_message f A m.nonce (map plain_of m.words)
 
--- A tag that the sealer drew is that of the message it finished: the latest one that was begun before.
+-- A tag that the sealer drew is the published cipher's for the message that it finished: the latest one that was begun before.
 abbrev pub PublishedTag : (ℕ → ℕ) → (ℕ → ℕ) → List Entry → List ℕ → Type 0
 PublishedTag f A before tag =
     (m : Message) × (earlier : List Message) × (messages before ≡ m ∷ earlier) × (tag ≡ message_tag f A m.nonce (map plain_of m.words))
 
--- A stretch carries a tag if it came after a begin, and the tag is that of its nonce and its words as they were received.
+-- A stretch carries a tag if it came after a begin, and the tag is the published cipher's for that nonce and the words as they were received.
 abbrev pub Carries : (ℕ → ℕ) → (ℕ → ℕ) → Stretch → List ℕ → Type 0
 Carries f A s tag =
     (nonce : List ℕ) × (s.mark ≡ begin nonce) × (tag ≡ message_tag f A nonce (opened_message f A nonce (map heard_wire s.words)))
@@ -188,12 +196,7 @@ Carries f A s tag =
 -- another mark than a begin, and else "differs".
 pub record Judged (f A : ℕ → ℕ) (s : Stretch) (tag : List ℕ) (verdict : Verdict) : Type 0 where
   pub agrees : (verdict ≡ Agrees) ↔ Carries f A s tag
-  pub broken : (verdict ≡ Broken) ↔ ((nonce : List ℕ) → s.mark ≢ begin nonce)
-
--- The same of the latest stretch of the log before the finish, which is the one that it ends.
-abbrev pub JudgedLatest : (ℕ → ℕ) → (ℕ → ℕ) → List Entry → List ℕ → Verdict → Type 0
-JudgedLatest f A before tag verdict =
-    (s : Stretch) × (others : List Stretch) × (stretches before ≡ s ∷ others) × Judged f A s tag verdict
+  pub broken : (verdict ≡ Broken) ↔ AfterOther s
 
 -- The law, for a log and the registers that the two ends have at its end.
 pub record Law (f A : ℕ → ℕ) (log : List Entry) (at_sealer at_receiver : State) : Type 0 where
@@ -210,7 +213,7 @@ pub record Law (f A : ℕ → ℕ) (log : List Entry) (at_sealer at_receiver : S
   -- number of false readings is zero.
   pub true_readings : (s : Stretch) → Contains (stretches log) s → (p : Placed log s) → TrueReadings s.words p.those
   pub no_false_reading : (a : Every (Assigned log) (stretches log)) → false_in_all log (stretches log) a ≡ 0
-  -- 4. Exactly these words are withheld, and each answer that withholds carries its row.
+  -- 4. Exactly these words are withheld, and each answer that withholds carries its row. This is promised alone, with no premise, too.
   pub withheld : Every Withholds (stretches log)
   -- 5. One altered word shows in the check registers just before closing, and in the registers that the tags are drawn from, however many words
   -- follow it.
@@ -224,11 +227,11 @@ pub record Law (f A : ℕ → ℕ) (log : List Entry) (at_sealer at_receiver : S
   pub published_tags : (before later : List Entry) (tag : List ℕ) → log ≡ before ++ OfSealer (sealer.Finished tag) ∷ later → PublishedTag f A before tag
   pub published_readings : (before later : List Entry) (mask wire p : ℕ) →
       log ≡ before ++ OfReceiver (receiver.Received mask wire (Reading p)) ∷ later → p ≡ plain_word f (receiver_registers f A before) mask wire
-  -- A message that is received as it was sent is read as it was given, and the tag that agrees is the one that was sent. Each verdict is the
-  -- one that the tag deserves.
+  -- A message that is received as it was sent, after a begin with its nonce, is read as it was given; where both ends finish it, the tag that
+  -- agrees is the one that was sent. Each verdict is that of the tag and the stretch that it ends.
   pub comes_back : (s : Stretch) → Contains (stretches log) s → (m : Message) → Contains (messages log) m → s.mark ≡ begin m.nonce →
       map heard_wire s.words ≡ map wire_of m.words → map (λ w. w.answer) s.words ≡ map (λ w. Reading w.plain) m.words
   pub tag_agrees : (u : Unbroken log) → map heard_wire u.stretch.words ≡ map wire_of u.message.words →
       (u.verdict ≡ Agrees) ↔ (u.heard_tag ≡ u.sent_tag)
   pub verdicts : (before later : List Entry) (tag : List ℕ) (verdict : Verdict) → log ≡ before ++ OfReceiver (receiver.Finished tag verdict) ∷ later →
-      JudgedLatest f A before tag verdict
+      OfLatest before (λ s. Judged f A s tag verdict)

@@ -11,23 +11,24 @@ use Rattle.link.specs.declared.call.SealerEntry.TheVariants as sealer
 use Rattle.link.specs.declared.call.ReceiverEntry.{ReceiverEntry}
 use Rattle.link.specs.declared.call.ReceiverEntry.TheVariants as receiver
 
--- A word that the sealer sealed: its mask, the plaintext it was given, and the wire word.
+-- A word that the sealer took, under any mask: the mask, the plaintext that it was given, and the wire word.
 pub record Sent : Type 0 where
   pub mask : ℕ
   pub plain : ℕ
   pub wire : ℕ
 
--- A message: the bytes of its nonce, and its words in the order in which they were sealed. A refused word is in no message.
+-- A message: the bytes of its nonce, and its words, sealed, open and part, in the order in which the sealer took them. A refused word is in no
+-- message.
 pub record Message : Type 0 where
   pub nonce : List ℕ
   pub words : List Sent
 
--- One more word of the latest message.
+-- The messages with one more word of the latest.
 abbrev pub sent_too : Sent → List Message → List Message
 sent_too w [] = []
 sent_too w (m ∷ ms) = record { nonce = m.nonce; words = m.words ++ w ∷ [] } ∷ ms
 
--- What an entry of the sealer adds to the messages: a begin opens one, a sealed word is added to it, all else adds nothing.
+-- The messages after one more entry of the sealer: a begin opens one, a word taken is added to it, all else adds nothing.
 abbrev pub message_noted : SealerEntry → List Message → List Message
 message_noted (sealer.Begun nonce) ms = record { nonce = nonce; words = [] } ∷ ms
 message_noted (sealer.Sealed mask plain wire) ms = sent_too (record { mask = mask; plain = plain; wire = wire }) ms
@@ -36,7 +37,7 @@ message_noted (sealer.Finished tag) ms = ms
 message_noted sealer.Abandoned ms = ms
 message_noted (sealer.OutOfTurn call) ms = ms
 
--- What an entry of either end adds to the messages; one of the receiver adds nothing.
+-- The messages after one more entry of either end; one of the receiver adds nothing.
 abbrev pub messages_then : List Message → Entry → List Message
 messages_then ms (OfSealer e) = message_noted e ms
 messages_then ms (OfReceiver e) = ms
@@ -63,7 +64,7 @@ pub record Stretch : Type 0 where
   pub mark : Mark
   pub words : List Heard
 
--- One more word of the latest stretch.
+-- The stretches with one more word of the latest.
 abbrev pub heard_too : Heard → List Stretch → List Stretch
 heard_too w [] = []
 heard_too w (s ∷ ss) = record { mark = s.mark; words = s.words ++ w ∷ [] } ∷ ss
@@ -72,7 +73,7 @@ heard_too w (s ∷ ss) = record { mark = s.mark; words = s.words ++ w ∷ [] } �
 abbrev pub marked : Mark → List Stretch → List Stretch
 marked m ss = record { mark = m; words = [] } ∷ ss
 
--- What an entry of the receiver adds to the stretches: a mark begins one, a word is added to it, a refused begin adds nothing.
+-- The stretches after one more entry of the receiver: a mark begins one, a word is added to it, a refused begin adds nothing.
 abbrev pub stretch_noted : ReceiverEntry → List Stretch → List Stretch
 stretch_noted (receiver.Begun nonce) ss = marked (begin (vec_items nonce)) ss
 stretch_noted (receiver.Refused nonce fault) ss = ss
@@ -80,7 +81,7 @@ stretch_noted (receiver.Received mask wire answer) ss = heard_too (record { mask
 stretch_noted receiver.BrokenOff ss = marked break ss
 stretch_noted (receiver.Finished tag verdict) ss = marked finish ss
 
--- What an entry of either end adds to the stretches; one of the sealer adds nothing.
+-- The stretches after one more entry of either end; one of the sealer adds nothing.
 abbrev pub stretches_then : List Stretch → Entry → List Stretch
 stretches_then ss (OfSealer e) = ss
 stretches_then ss (OfReceiver e) = stretch_noted e ss
@@ -102,7 +103,7 @@ reset_to start = record { start = start; words = [] }
 abbrev pub one_more : {W : Type 0} → Since W → W → Since W
 one_more s w = record { start = s.start; words = s.words ++ w ∷ [] }
 
--- What an entry of the sealer does: begin, finish and abandon reset, a sealed word is added.
+-- The sealer's words since its latest reset, after one more entry of the sealer: begin, finish and abandon reset, a word taken is added.
 abbrev pub sent_noted : Since Sent → SealerEntry → Since Sent
 sent_noted s (sealer.Begun nonce) = reset_to (Some nonce)
 sent_noted s (sealer.Sealed mask plain wire) = one_more s (record { mask = mask; plain = plain; wire = wire })
@@ -111,7 +112,7 @@ sent_noted s (sealer.Finished tag) = reset_to None
 sent_noted s sealer.Abandoned = reset_to None
 sent_noted s (sealer.OutOfTurn call) = s
 
--- What an entry of either end adds to the sealer's words; one of the receiver adds nothing.
+-- The sealer's words since its latest reset, after one more entry of either end; one of the receiver adds nothing.
 abbrev pub sent_then : Since Sent → Entry → Since Sent
 sent_then s (OfSealer e) = sent_noted s e
 sent_then s (OfReceiver e) = s
@@ -120,7 +121,8 @@ sent_then s (OfReceiver e) = s
 unfoldable pub sent_since : List Entry → Since Sent
 sent_since log = fold sent_then (reset_to None) log
 
--- What an entry of the receiver does: a begin that was taken and a finish reset, a word is added, a break does nothing.
+-- The receiver's words since its latest reset, after one more entry of the receiver: a begin that was taken and a finish reset, a word is
+-- added, a break does nothing.
 abbrev pub heard_noted : Since Heard → ReceiverEntry → Since Heard
 heard_noted s (receiver.Begun nonce) = reset_to (Some (vec_items nonce))
 heard_noted s (receiver.Refused nonce fault) = s
@@ -128,7 +130,7 @@ heard_noted s (receiver.Received mask wire answer) = one_more s (record { mask =
 heard_noted s receiver.BrokenOff = s
 heard_noted s (receiver.Finished tag verdict) = reset_to None
 
--- What an entry of either end adds to the receiver's words; one of the sealer adds nothing.
+-- The receiver's words since its latest reset, after one more entry of either end; one of the sealer adds nothing.
 abbrev pub heard_then : Since Heard → Entry → Since Heard
 heard_then s (OfSealer e) = s
 heard_then s (OfReceiver e) = heard_noted s e
@@ -149,7 +151,7 @@ wire_of w = record { mask = w.mask; text = w.wire }
 abbrev pub heard_wire : Heard → MaskedWord
 heard_wire w = record { mask = w.mask; text = w.wire }
 
--- The registers that the words are counted from: zero, or those that the begin with this nonce leaves.
+-- The registers at a reset: zero, or those that the begin with this nonce leaves.
 abbrev pub start_of : (ℕ → ℕ) → (ℕ → ℕ) → Option (List ℕ) → State
 start_of f A None = zeroed
 start_of f A (Some nonce) = begun f A nonce

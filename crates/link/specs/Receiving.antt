@@ -12,7 +12,7 @@ use Rattle.link.specs.declared.reception.Answer.TheVariants.{Reading, Withheld}
 use Rattle.link.specs.declared.reception.Verdict.{Verdict}
 use Rattle.link.specs.declared.reception.Verdict.TheVariants.{Agrees, Differs, Broken}
 
--- The row of a lost receiver; any other has none.
+-- The row of a lost receiver; any other has none, which counts as 0.
 abbrev pub row_of : Reception → ℕ
 row_of Whole = 0
 row_of Caught = 0
@@ -28,6 +28,7 @@ with_row n = cond (n == 17) Caught (Lost n)
 
 -- Where a receiver stands after a call, and what becomes of the reading or the verdict. Begin makes it whole, break and finish make it lost
 -- with row 0. Words are handed out by a whole and a caught receiver and withheld by a lost one; a verdict is given by a whole one alone.
+-- What stands beside a begin and a break is not used, nor is the row beside a finish.
 abbrev pub decided : Reception → Event → Reception × Release
 decided s Begin = (Whole, HandOut)
 decided s Break = (Lost 0, Withhold 0)

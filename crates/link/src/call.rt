@@ -44,7 +44,7 @@ pub type Unmade = SealerCall<[u8; 6]>;
 pub enum SealerEntry {
     /// A message was begun with this nonce.
     Begun([u8; 6]),
-    /// A word was sealed.
+    /// A word was taken, under any mask, and this is its wire word.
     Sealed { mask: u16, plain: u16, wire: u16 },
     /// A word was refused.
     Refused { mask: u16, plain: u16, fault: Fault },

@@ -1,7 +1,7 @@
 //! Either end of a link by its calls: whatever the state and the call, one answer for the log.
 ghost use Rattle.std.specs.Prelude.{◌≡◌, None, Some};
-ghost use Rattle.link.specs.Ends.{Leads, ReceiverCallFits, ReceiverMakes, SealerCallFits, SealerMakes, words_open};
-ghost use Rattle.link.specs.Noting.{NotesReceiver, NotesSealer, open_then};
+ghost use Rattle.link.specs.Ends.{Leads, ReceiverCallFits, ReceiverMakes, SealerCallFits, SealerMakes, open_count};
+ghost use Rattle.link.specs.Noting.{NotesReceiver, NotesSealer, open_noted};
 
 use crate::call::{ReceiverCall, ReceiverEntry, SealerCall, SealerEntry, Unmade};
 use crate::receiver::Receiver;
@@ -20,7 +20,7 @@ impl<K: KeyedFunction, C: Coefficient> ReadySealer<K, C> {
     fn take(self, call: SealerCall) -> (Sealer<K, C>, SealerEntry)
         ensures made { SealerMakes K.KeyedFunction C.Coefficient (Sealer.Ready self) call result.1 result.0 }
         ensures noted { NotesSealer None call result.1 }
-        ensures turn { words_open result.0 ≡ open_then None result.1 }
+        ensures turn { open_count result.0 ≡ open_noted None result.1 }
         ensures fits { SealerCallFits call }
     {
         let unmade = match call {
@@ -41,7 +41,7 @@ impl<K: KeyedFunction, C: Coefficient> OpenMessage<K, C> {
     fn take(mut self, call: SealerCall) -> (Sealer<K, C>, SealerEntry)
         ensures made { SealerMakes K.KeyedFunction C.Coefficient (Sealer.Open self) call result.1 result.0 }
         ensures noted { NotesSealer (Some self.words) call result.1 }
-        ensures turn { words_open result.0 ≡ open_then (Some self.words) result.1 }
+        ensures turn { open_count result.0 ≡ open_noted (Some self.words) result.1 }
         ensures fits { SealerCallFits call }
     {
         match call {
@@ -69,8 +69,8 @@ impl<K: KeyedFunction, C: Coefficient> Sealer<K, C> {
     /// Makes a call. A begin while a message is open, and any other call while none is, is out of turn and not made.
     pub fn take(self, call: SealerCall) -> (Self, SealerEntry)
         ensures made { SealerMakes K.KeyedFunction C.Coefficient self call result.1 result.0 }
-        ensures noted { NotesSealer (words_open self) call result.1 }
-        ensures turn { words_open result.0 ≡ open_then (words_open self) result.1 }
+        ensures noted { NotesSealer (open_count self) call result.1 }
+        ensures turn { open_count result.0 ≡ open_noted (open_count self) result.1 }
         ensures fits { SealerCallFits call }
     {
         match self {

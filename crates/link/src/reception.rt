@@ -7,9 +7,10 @@ ghost use Rattle.link.specs.Receiving.{decided, row_of};
 pub enum Reception {
     /// It began a message, and has been told of no loss since.
     Whole,
-    /// After a loss it has taken seventeen sealed words in a row: it hands out again.
+    /// It was lost, and has since taken seventeen sealed words in a row: it hands out again.
     Caught,
-    /// It has lost its footing. The row is how many sealed words it has taken since, the latest ones in a row: 0 to 16.
+    /// It is new, was told of a loss, or has ended a message: it withholds. The row is how many of the latest words it took since are sealed:
+    /// 0 to 16.
     Lost(u8),
 }
 
@@ -44,11 +45,11 @@ pub enum Answer {
 /// What a receiver answers to a tag.
 #[derive(Clone, Copy, PartialEq, Eq, Debug)]
 pub enum Verdict {
-    /// The message was received whole, and its tag is the one that was drawn.
+    /// No loss was told since the begin, and the tag is the one that was drawn.
     Agrees,
-    /// The message was received whole, and its tag is another.
+    /// No loss was told since the begin, and the tag is another.
     Differs,
-    /// The message was not received whole.
+    /// A loss was told since the begin, or no message was begun.
     Broken,
 }
 

@@ -6,7 +6,7 @@ use Rattle.sss.specs.Asked.{Keeps}
 use Rattle.sss.specs.declared.keyed.KeyedFunction.{Ghosts as Keyed}
 use Rattle.sss.proofs.Asked.{keeps_on}
 use Rattle.sss.proofs.OneToOne.{keyed_one_to_one}
-use Rattle.link.specs.Ends.{Ends, CallFits, history, new_ends, one_call, ready, receiving, sealer_engine, words_open}
+use Rattle.link.specs.Ends.{Ends, CallFits, history, new_ends, one_call, ready, receiving, sealer_engine, open_count}
 use Rattle.link.specs.Histories.{after}
 use Rattle.link.specs.Log.{stretches}
 use Rattle.link.specs.declared.call.Call.{Call}
@@ -141,7 +141,7 @@ returns g c =
           (after c.loop-call.history) (value s r) withheld;
       noted =
           subst (λ (z : List Call). NotesAll [] z (vec_items c.loop-call.history.log)) c.into_iter-call-iterator.ensures.into_iter_gives.0
-          (all_made all rest (vec_items c.loop-call.history.log) (words_open c.loop-call.history.sealer) inv.8 none);
+          (all_made all rest (vec_items c.loop-call.history.log) (open_count c.loop-call.history.sealer) inv.8 none);
       withheld = withheld;
       broken = inv.9;
       standing =

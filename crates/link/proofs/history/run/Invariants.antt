@@ -3,7 +3,7 @@ use Rattle.std.specs.Vec.Iter.{into_iter_items}
 use Rattle.std.specs.List.{AllByRecursion as Every}
 use Rattle.sss.specs.Cipher.{keyed}
 use Rattle.sss.specs.Asked.{Keeps}
-use Rattle.link.specs.Ends.{CallFits, sealer_engine, words_open}
+use Rattle.link.specs.Ends.{CallFits, sealer_engine, open_count}
 use Rattle.link.specs.Histories.{after}
 use Rattle.link.specs.Log.{stretches}
 use Rattle.link.specs.Law.{BrokenExactly}
@@ -31,5 +31,5 @@ invariant-loop-call g l =
     (l.history.receiver.engine.coefficient ≡ b) ×
     Enough l.initial.history.log all l.history.log rest ×
     Standing (stretches (vec_items l.history.log)) l.history.receiver.footing.reception ×
-    Made all rest (vec_items l.history.log) (words_open l.history.sealer) ×
+    Made all rest (vec_items l.history.log) (open_count l.history.sealer) ×
     BrokenExactly (vec_items l.history.log)
