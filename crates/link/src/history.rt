@@ -38,26 +38,19 @@ where
             mut receiver,
             mut log,
         } = self;
-        match call {
+        let (sealer, entry) = match call {
             Call::OnSealer(call) => {
                 let (sealer, entry) = sealer.take(call);
-                log.push(Entry::OfSealer(entry))?;
-                Ok(History {
-                    sealer,
-                    receiver,
-                    log,
-                })
+                (sealer, Entry::OfSealer(entry))
             }
-            Call::OnReceiver(call) => {
-                let entry = receiver.take(call);
-                log.push(Entry::OfReceiver(entry))?;
-                Ok(History {
-                    sealer,
-                    receiver,
-                    log,
-                })
-            }
-        }
+            Call::OnReceiver(call) => (sealer, Entry::OfReceiver(receiver.take(call))),
+        };
+        log.push(entry)?;
+        Ok(History {
+            sealer,
+            receiver,
+            log,
+        })
     }
 }
 
