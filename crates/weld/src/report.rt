@@ -31,7 +31,10 @@ pub(crate) fn opening(rt: &HostRuntime) -> io::Result<()> {
     println!(rt;
         "withheld ROW: after a loss no reading is handed out until 17 sealed words in a row have come, and ROW of them have"
     )?;
-    println!(rt; "false: a reading that is not the plaintext which was sealed")
+    println!(rt; "false: a reading that is not the plaintext which was sealed")?;
+    println!(rt;
+        "last line: the words that the sealer took, under any mask; of these the received; of those the handed out and the withheld; and the false"
+    )
 }
 
 /// Prints lines.

@@ -32,7 +32,7 @@ impl fmt::Display for SpotCheck {
         let tag = Tag(*tag);
         write!(
             f,
-            "one word sealed by hand, in a message of its own: plaintext {plain:04x}, wire {wire:04x}, tag {tag}"
+            "a message of one word, sealed call by call, not sent across the joint and in no count: plaintext {plain:04x}, wire {wire:04x}, tag {tag}"
         )
     }
 }
