@@ -2,3 +2,4 @@ pub mod Tallies
 pub mod Runs
 pub mod Passages
 pub mod Observed
+pub mod Alone
