@@ -3,7 +3,7 @@ ghost use Rattle.std.specs.Prelude.{IfOk};
 ghost use Rattle.weld.specs.Runs.{KeepsLaw, the_key};
 
 use crate::failure::Failure;
-use crate::scenario::{KEY, RUN};
+use crate::scenario::{KEY, PLANS, RUN};
 use crate::{joint, sending};
 use functions::{FieldRule, FilledTable, FromKey, PrintedTable};
 use link::{Call, History, Issuer};
@@ -30,7 +30,7 @@ pub(crate) fn whole_run(heap: Global, issuer: &mut Issuer) -> Result<Link, Failu
     ensures law { IfOk result (KeepsLaw the_key) }
 {
     let mut rehearsal = Issuer::new(RUN);
-    let sealed = run(&KEY, sending::calls(heap, &mut rehearsal)?)?;
-    let calls = joint::calls(sending::calls(heap, issuer)?, &sealed.log)?;
+    let sealed = run(&KEY, sending::calls(heap, &PLANS, &mut rehearsal)?)?;
+    let calls = joint::calls(&PLANS, sending::calls(heap, &PLANS, issuer)?, &sealed.log)?;
     run(&KEY, calls)
 }

@@ -1,13 +1,19 @@
 //! The joint of the pipe between the two ends: which calls on the receiver come of what the sealer sent.
+ghost use Rattle.std.specs.Prelude.{◌≡◌, IfOk, OnOk};
+ghost use Rattle.std.specs.Slice.Iter.{iter_rest};
+ghost use Rattle.weld.specs.Joint.{ComesOf, ComesOfWord, fates_left, next_fate};
+
 use crate::failure::Failure;
-use crate::scenario::{ALTERATION, Fate, PLANS};
+use crate::scenario::{ALTERATION, Fate, Plan};
 use link::{Call, Entry, ReceiverCall, SealerEntry};
 use std::alloc::Global;
 use std::slice::Iter;
 
 impl Fate {
     /// The receiver's call that comes of a wire word: the word as it comes, if it comes, and a break after the last word of a loss.
-    fn of_word(self, mask: u16, wire: u16) -> Option<ReceiverCall> {
+    fn of_word(self, mask: u16, wire: u16) -> Option<ReceiverCall>
+        ensures { ComesOfWord self mask wire result }
+    {
         match self {
             Fate::Comes => Some(ReceiverCall::Word { mask, wire }),
             Fate::Altered => Some(ReceiverCall::Word {
@@ -25,7 +31,10 @@ fn carried(
     heap: Global,
     entry: &SealerEntry,
     fates: &mut Iter<'_, Fate>,
-) -> Result<Option<ReceiverCall>, Failure> {
+) -> Result<Option<ReceiverCall>, Failure>
+    ensures call { IfOk result (ComesOf entry.now (next_fate (iter_rest fates.old))) }
+    ensures fates { OnOk result (iter_rest fates.new ≡ fates_left entry.now (iter_rest fates.old)) }
+{
     match entry {
         SealerEntry::Begun(nonce) => Ok(Some(ReceiverCall::Begin(nonce.to_vec(heap)?))),
         SealerEntry::Sealed { mask, wire, .. } => {
@@ -40,9 +49,13 @@ fn carried(
 }
 
 /// The calls of the whole link: each call on the sealer, and behind it what comes of it at the receiver, by the log of those calls.
-pub(crate) fn calls(sealing: Vec<Call>, log: &[Entry]) -> Result<Vec<Call>, Failure> {
+pub(crate) fn calls(
+    plans: &[Plan],
+    sealing: Vec<Call>,
+    log: &[Entry],
+) -> Result<Vec<Call>, Failure> {
     let heap = *sealing.allocator();
-    let fates: Vec<Fate> = PLANS
+    let fates: Vec<Fate> = plans
         .iter()
         .flat_map(|plan| (0..plan.words).map(|place| plan.fate(place)))
         .collect(heap)?;
