@@ -1,9 +1,9 @@
 //! The runs of the link: a sealer and a receiver of one key that work by different implementations.
-ghost use Rattle.std.specs.Prelude.{IfOk};
+ghost use Rattle.std.specs.Prelude.{◌≡◌, ◌+◌, length, IfOk, OnOk};
 ghost use Rattle.weld.specs.Runs.{KeepsLaw, the_key};
 
 use crate::failure::Failure;
-use crate::scenario::{KEY, PLANS, RUN};
+use crate::scenario::{KEY, Plan, RUN};
 use crate::{joint, sending};
 use functions::{FieldRule, FilledTable, FromKey, PrintedTable};
 use link::{Call, History, Issuer};
@@ -24,13 +24,14 @@ pub(crate) fn run(key: &[u8], calls: Vec<Call>) -> Result<Link, Failure>
     Ok(link::run((filled, PrintedTable), (worked_out, FieldRule), calls, log)?)
 }
 
-/// The run of the whole link. A first run with the sealer alone tells the wire words and tags that the joint then
-/// carries. The law of a loss holds of the whole run.
-pub(crate) fn whole_run(heap: Global, issuer: &mut Issuer) -> Result<Link, Failure>
+/// The run of the whole link, by the plans of its messages. A first run with the sealer alone tells the wire words and
+/// tags that the joint then carries. The law of a loss holds of the whole run.
+pub(crate) fn whole_run(heap: Global, plans: &[Plan], issuer: &mut Issuer) -> Result<Link, Failure>
     ensures law { IfOk result (KeepsLaw the_key) }
+    ensures issued { OnOk result (issuer.new ≡ record issuer.old { issued = issuer.old.issued + length plans.now }) }
 {
     let mut rehearsal = Issuer::new(RUN);
-    let sealed = run(&KEY, sending::calls(heap, &PLANS, &mut rehearsal)?)?;
-    let calls = joint::calls(&PLANS, sending::calls(heap, &PLANS, issuer)?, &sealed.log)?;
+    let sealed = run(&KEY, sending::calls(heap, plans, &mut rehearsal)?)?;
+    let calls = joint::calls(plans, sending::calls(heap, plans, issuer)?, &sealed.log)?;
     run(&KEY, calls)
 }

@@ -1,4 +1,4 @@
-use Rattle.std.proofs.Common.{◌≡◌, ℕ, zero, suc, ◌+◌, ◌<◌, List, [], ◌∷◌, ◌++◌, length, get_or, take, refl, sym, ap, ◌∙◌, add-one, add-zero, add_assoc, append_assoc, append-nil, arith}
+use Rattle.std.proofs.Common.{◌≡◌, ℕ, zero, suc, ◌+◌, ◌<◌, List, [], ◌∷◌, ◌++◌, length, get_or, take, sym, ap, ◌∙◌, add-one, add-zero, append_assoc, append-nil, arith}
 use Rattle.link.specs.declared.call.Call.{Call}
 use Rattle.link.specs.declared.issuer.Issuer.{Issuer}
 use Rattle.link.specs.declared.issuer.Nonce.{Nonce}
