@@ -43,7 +43,7 @@ ComesOfCall (OutOfTurn call') fate call = ⊥
 abbrev pub words_of : List Plan → List (Plan × ℕ)
 words_of plans = flat_map (λ plan. map (λ place. (plan, place)) (range_with_len 0 plan.words)) plans
 
--- The fates are those of words, in order.
+-- The fates are those of the words, in order.
 abbrev pub AreFates : List (Plan × ℕ) → List Fate → Type 0
 AreFates words fates = AllZip (λ word fate. IsFateAt word.0 word.1 fate) words fates
 
@@ -51,7 +51,7 @@ AreFates words fates = AllZip (λ word fate. IsFateAt word.0 word.1 fate) words 
 abbrev pub next_fate : List Fate → Fate
 next_fate fates = slice_index_or fates 0 Comes
 
--- The fates that are left: each word that was sealed takes one.
+-- The fates that are left behind an entry of the sealer: a word that was sealed takes one.
 abbrev pub fates_left : SealerEntry → List Fate → List Fate
 fates_left (Begun nonce) fates = fates
 fates_left (Sealed mask plain wire) fates = drop 1 fates
@@ -60,11 +60,12 @@ fates_left Abandoned fates = fates
 fates_left (Refused mask plain fault) fates = fates
 fates_left (OutOfTurn call) fates = fates
 
--- Nothing comes of an entry of the receiver, and such an entry takes no fate.
+-- The same of an entry of either end: nothing comes of the receiver's own.
 abbrev pub ComesOf : Entry → Fate → Option ReceiverCall → Type 0
 ComesOf (OfSealer entry) fate call = ComesOfCall entry fate call
 ComesOf (OfReceiver entry) fate call = call ≡ None
 
+-- The fates that are left behind an entry of either end: one of the receiver takes none.
 abbrev pub fates_after : Entry → List Fate → List Fate
 fates_after (OfSealer entry) fates = fates_left entry fates
 fates_after (OfReceiver entry) fates = fates
@@ -82,6 +83,6 @@ Joined fates (made ∷ others) calls =
     (came : Option ReceiverCall) × (rest : List Call) × ComesOf made.1 (next_fate fates) came ×
     (calls ≡ made.0 ∷ at_receiver came ++ rest) × Joined (fates_after made.1 fates) others rest
 
--- The same for the fates of all words of these plans.
+-- The calls of the whole link, for the fates of all words of these plans.
 abbrev pub CarriesAcross : List Plan → List (Call × Entry) → List Call → Type 0
 CarriesAcross plans made calls = (fates : List Fate) × AreFates (words_of plans) fates × Joined fates made calls

@@ -6,3 +6,4 @@ pub mod Alone
 pub mod Places
 pub mod Scenario
 pub mod Joint
+pub mod Lines

@@ -49,6 +49,8 @@ pub struct Places {
 }
 
 impl From<&Sent> for Places {
+    ghost from_gives = { λ sent places. (places.span.first ≡ sent.now.place) × (places.span.last ≡ sent.now.place) × IsKindOf sent.now.mask places.kind };
+
     fn from(sent: &Sent) -> Places {
         Places {
             span: Span::of(sent.place),
