@@ -7,3 +7,4 @@ pub mod Places
 pub mod Scenario
 pub mod Joint
 pub mod Lines
+pub mod Crossings

@@ -1,6 +1,7 @@
 //! The runs of the link: a sealer and a receiver of one key that work by different implementations.
 ghost use Rattle.std.specs.Prelude.{◌≡◌, ◌+◌, length, IfOk, OnOk};
-ghost use Rattle.weld.specs.Runs.{KeepsLaw, the_key};
+ghost use Rattle.weld.specs.Crossings.{Crosses};
+ghost use Rattle.weld.specs.Runs.{IsRunOf, KeepsLaw, the_key};
 
 use crate::failure::Failure;
 use crate::scenario::{KEY, Plan, RUN};
@@ -15,6 +16,7 @@ pub type Link = History<FilledTable, PrintedTable, FromKey, FieldRule>;
 /// Makes the calls of a list on a new sealer and a new receiver of one key. The law of a loss holds of what comes of it.
 pub(crate) fn run(key: &[u8], calls: Vec<Call>) -> Result<Link, Failure>
     ensures law { IfOk result (KeepsLaw key.now) }
+    ensures run { IfOk result (IsRunOf key.now calls.items) }
 {
     let mut filled = FilledTable::new();
     filled.load(key)?;
@@ -28,6 +30,7 @@ pub(crate) fn run(key: &[u8], calls: Vec<Call>) -> Result<Link, Failure>
 /// tags that the joint then carries. The law of a loss holds of the whole run.
 pub(crate) fn whole_run(heap: Global, plans: &[Plan], issuer: &mut Issuer) -> Result<Link, Failure>
     ensures law { IfOk result (KeepsLaw the_key) }
+    ensures crosses { IfOk result (Crosses plans.now issuer.old.run issuer.old.issued) }
     ensures issued { OnOk result (issuer.new ≡ record issuer.old { issued = issuer.old.issued + length plans.now }) }
 {
     let mut rehearsal = Issuer::new(RUN);
