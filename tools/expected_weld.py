@@ -25,6 +25,7 @@ OPENING = [
     "words count from 0 in each message; a word is sealed unless it is open (a mileage mark, in metres) or part (the bits of its mask)",
     "withheld ROW: after a loss no reading is handed out until 17 sealed words in a row have come, and ROW of them have",
     "false: a reading that is not the plaintext which was sealed",
+    "last line: the words that the sealer took, under any mask; of these the received; of those the handed out and the withheld; and the false",
 ]
 
 
@@ -69,7 +70,7 @@ def after(word, answer):
 
 
 def seal(reference):
-    """Adds nonce, wire words and tag to each message; answers the wire word and the tag of the message by hand."""
+    """Adds nonce, wire words and tag to each message; answers the wire word and the tag of the message of one word."""
     script = [f"key {KEY}", f"issuer {RUN}"]
     for m in SCENARIO:
         script.append("sbegin")
@@ -183,7 +184,7 @@ def main():
         for row in rows(m):
             print("  " + row_text(m, row))
         print(f"  tag {m.tag}: verdict {m.verdict}" if m.finished else "  abandoned by the sealer: no tag, no verdict")
-    print(f"one word sealed by hand, in a message of its own: plaintext {wall(0):04x}, wire {wire}, tag {tag}")
+    print(f"a message of one word, sealed call by call, not sent across the joint and in no count: plaintext {wall(0):04x}, wire {wire}, tag {tag}")
     kinds = [what for m in SCENARIO for what, _, _ in seen(m)]
     handed, withheld, wrong = kinds.count("true") + kinds.count("false"), kinds.count("withheld"), kinds.count("false")
     sealed = sum(len(m.masks) for m in SCENARIO)

@@ -1,6 +1,7 @@
 #!/usr/bin/env python3
 """Sees that the compiler refuses each misuse of crates/*/misuse: a nonce that
-is used twice, a word after the tag, a word before a message is open.
+is used twice, in a list of calls or for a second message of one sealer, a word
+after the tag, a word before a message is open.
 
 A misuse has the form of a must-fail edit (`file:`, `old:`, `new:`), but it is
 refused for a variable that was moved or a method that is not there, before

@@ -1,13 +1,20 @@
 //! The joint of the pipe between the two ends: which calls on the receiver come of what the sealer sent.
+ghost use Rattle.std.specs.Prelude.{◌≡◌, IfOk, OnOk};
+ghost use Rattle.std.specs.List.{zip};
+ghost use Rattle.std.specs.Slice.Iter.{iter_rest};
+ghost use Rattle.weld.specs.Joint.{AreFates, CarriesAcross, ComesOf, ComesOfWord, fates_after, next_fate, words_of};
+
 use crate::failure::Failure;
-use crate::scenario::{ALTERATION, Fate, PLANS};
+use crate::scenario::{ALTERATION, Fate, Plan};
 use link::{Call, Entry, ReceiverCall, SealerEntry};
 use std::alloc::Global;
 use std::slice::Iter;
 
 impl Fate {
     /// The receiver's call that comes of a wire word: the word as it comes, if it comes, and a break after the last word of a loss.
-    fn of_word(self, mask: u16, wire: u16) -> Option<ReceiverCall> {
+    fn of_word(self, mask: u16, wire: u16) -> Option<ReceiverCall>
+        ensures { ComesOfWord self mask wire result }
+    {
         match self {
             Fate::Comes => Some(ReceiverCall::Word { mask, wire }),
             Fate::Altered => Some(ReceiverCall::Word {
@@ -23,9 +30,15 @@ impl Fate {
 /// The receiver's call that comes of a call on the sealer, if one comes. The next of the fates is that of the next word.
 fn carried(
     heap: Global,
-    entry: &SealerEntry,
+    entry: &Entry,
     fates: &mut Iter<'_, Fate>,
-) -> Result<Option<ReceiverCall>, Failure> {
+) -> Result<Option<ReceiverCall>, Failure>
+    ensures call { IfOk result (ComesOf entry.now (next_fate (iter_rest fates.old))) }
+    ensures fates { OnOk result (iter_rest fates.new ≡ fates_after entry.now (iter_rest fates.old)) }
+{
+    let Entry::OfSealer(entry) = entry else {
+        return Ok(None);
+    };
     match entry {
         SealerEntry::Begun(nonce) => Ok(Some(ReceiverCall::Begin(nonce.to_vec(heap)?))),
         SealerEntry::Sealed { mask, wire, .. } => {
@@ -39,20 +52,31 @@ fn carried(
     }
 }
 
+/// The fates of all words, message by message.
+fn fates(heap: Global, plans: &[Plan]) -> Result<Vec<Fate>, Failure>
+    ensures { IfOk result (λ v. AreFates (words_of plans.now) v.items) }
+{
+    let mut fates = Vec::new(heap);
+    for plan in plans {
+        for place in 0..plan.words {
+            fates.push(plan.fate(place))?;
+        }
+    }
+    Ok(fates)
+}
+
 /// The calls of the whole link: each call on the sealer, and behind it what comes of it at the receiver, by the log of those calls.
-pub(crate) fn calls(sealing: Vec<Call>, log: &[Entry]) -> Result<Vec<Call>, Failure> {
+pub(crate) fn calls(plans: &[Plan], sealing: Vec<Call>, log: &[Entry]) -> Result<Vec<Call>, Failure>
+    ensures { IfOk result (λ v. CarriesAcross plans.now (zip sealing.items log.now) v.items) }
+{
     let heap = *sealing.allocator();
-    let fates: Vec<Fate> = PLANS
-        .iter()
-        .flat_map(|plan| (0..plan.words).map(|place| plan.fate(place)))
-        .collect(heap)?;
+    let fates = fates(heap, plans)?;
     let mut fates = fates.iter();
     let mut calls = Vec::new(heap);
     for (call, entry) in sealing.into_iter().zip(log) {
         calls.push(call)?;
-        if let Entry::OfSealer(entry) = entry
-            && let Some(call) = carried(heap, entry, &mut fates)?
-        {
+        let came = carried(heap, entry, &mut fates)?;
+        if let Some(call) = came {
             calls.push(Call::OnReceiver(call))?;
         }
     }

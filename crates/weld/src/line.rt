@@ -1,4 +1,7 @@
 //! The lines of the report.
+ghost use Rattle.std.specs.Prelude.{Some, None};
+ghost use Rattle.weld.specs.Lines.{CarriesOn, IsEven, TellsOne, told, told_of_word};
+
 use crate::hex::{Hex, Tag};
 use crate::passage::{Event, Sent};
 use crate::places::Places;
@@ -54,6 +57,8 @@ pub enum Line {
 }
 
 impl From<&Event> for Line {
+    ghost from_gives = { λ event line. TellsOne (told event.now) line };
+
     fn from(event: &Event) -> Line {
         match *event {
             Event::Begun { message, nonce } => Line::Heading { message, nonce },
@@ -72,7 +77,9 @@ impl From<&Event> for Line {
 
 impl Line {
     /// The line of a word alone.
-    fn of_word(sent: &Sent, answer: Option<Answer>) -> Line {
+    fn of_word(sent: &Sent, answer: Option<Answer>) -> Line
+        ensures { TellsOne (told_of_word sent.now answer) result }
+    {
         let places = Places::from(sent);
         let plain = sent.plain;
         match answer {
@@ -95,29 +102,61 @@ impl Line {
     }
 
     /// Takes what is seen next into this line, where the line tells of a row of words that it carries on.
-    pub(crate) fn takes(&mut self, event: &Event) -> bool {
+    pub(crate) fn takes(&mut self, event: &Event) -> bool
+        requires { IsEven self.old }
+        ensures { CarriesOn result self.old (told event.now) self.new }
+    {
         let Event::Word { sent, answer } = event else {
             return false;
         };
         match (self, answer) {
-            (Line::Lost(places), None) => places.takes(sent),
+            (Line::Lost(places), None) => one_more_lost(places, sent),
             (Line::Withheld { places, rows }, Some(Answer::Withheld(row))) => {
-                let goes_on = rows.leads_to(*row) && places.takes(sent);
-                if goes_on {
-                    rows.take(*row);
-                }
-                goes_on
+                one_more_withheld(places, rows, sent, *row)
             }
             (Line::Readings { places, values }, Some(Answer::Reading(reading))) => {
-                let goes_on = *reading == sent.plain && !values.is_full() && places.takes(sent);
-                if goes_on {
-                    values.push(*reading);
-                }
-                goes_on
+                one_more_reading(places, values, sent, *reading)
             }
             _ => false,
         }
     }
+}
+
+/// Takes one more lost word in, if it follows.
+fn one_more_lost(places: &mut Places, sent: &Sent) -> bool
+    requires { IsEven (Line.Lost places.old) }
+    ensures { CarriesOn result (Line.Lost places.old) (told_of_word sent.now None) (Line.Lost places.new) }
+{
+    places.takes(sent)
+}
+
+/// Takes one more withheld word in, if it follows and its row does.
+fn one_more_withheld(places: &mut Places, rows: &mut Span<u8>, sent: &Sent, row: u8) -> bool
+    requires { IsEven (Line.Withheld places.old rows.old) }
+    ensures { CarriesOn result (Line.Withheld places.old rows.old) (told_of_word sent.now (Some (Answer.Withheld row))) (Line.Withheld places.new rows.new) }
+{
+    let goes_on = rows.leads_to(row) && places.takes(sent);
+    if goes_on {
+        rows.take(row);
+    }
+    goes_on
+}
+
+/// Takes one more reading in, if its word follows, it is the plaintext of that word, and the line has room for it.
+fn one_more_reading(
+    places: &mut Places,
+    values: &mut ArrayVec<u16, WIDTH>,
+    sent: &Sent,
+    reading: u16,
+) -> bool
+    requires { IsEven (Line.Readings places.old values.old) }
+    ensures { CarriesOn result (Line.Readings places.old values.old) (told_of_word sent.now (Some (Answer.Reading reading))) (Line.Readings places.new values.new) }
+{
+    let goes_on = reading == sent.plain && !values.is_full() && places.takes(sent);
+    if goes_on {
+        values.push(reading);
+    }
+    goes_on
 }
 
 /// What is said of a verdict.

@@ -40,7 +40,7 @@ fn observed(heap: Global) -> Result<Findings, Failure>
     ensures { IfOk result CountsItsRun }
 {
     let mut issuer = Issuer::new(scenario::RUN);
-    let link = crossing::whole_run(heap, &mut issuer)?;
+    let link = crossing::whole_run(heap, &scenario::PLANS, &mut issuer)?;
     let events = passage::events(heap, &link.log)?;
     let lines = report::lines(heap, &events)?;
     let tally = Tally::of(&events);

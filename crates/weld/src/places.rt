@@ -1,4 +1,8 @@
 //! Words of a message by their places.
+ghost use Rattle.std.specs.Prelude.{◌≡◌, ◌+◌, ◌↔◌, IsTrue};
+ghost use Rattle.std.specs.Bool.{OnTrue, OnFalse};
+ghost use Rattle.weld.specs.Places.{IsKindOf};
+
 use crate::passage::Sent;
 use crate::scenario::{OPEN, SEALED};
 use crate::span::Span;
@@ -16,6 +20,8 @@ pub enum Kind {
 }
 
 impl From<u16> for Kind {
+    ghost from_gives = { IsKindOf };
+
     fn from(mask: u16) -> Kind {
         match mask {
             SEALED => Kind::Sealed,
@@ -43,6 +49,8 @@ pub struct Places {
 }
 
 impl From<&Sent> for Places {
+    ghost from_gives = { λ sent places. (places.span.first ≡ sent.now.place) × (places.span.last ≡ sent.now.place) × IsKindOf sent.now.mask places.kind };
+
     fn from(sent: &Sent) -> Places {
         Places {
             span: Span::of(sent.place),
@@ -53,7 +61,11 @@ impl From<&Sent> for Places {
 
 impl Places {
     /// Takes the next word in, if it follows and is of the same kind.
-    pub(crate) fn takes(&mut self, sent: &Sent) -> bool {
+    pub(crate) fn takes(&mut self, sent: &Sent) -> bool
+        ensures follows { IsTrue result ↔ ((sent.now.place ≡ self.old.span.last + 1) × IsKindOf sent.now.mask self.old.kind) }
+        ensures taken { OnTrue result (self.new ≡ record self.old { span = record self.old.span { last = sent.now.place } }) }
+        ensures left { OnFalse result (self.new ≡ self.old) }
+    {
         let goes_on = self.span.leads_to(sent.place) && self.kind == sent.mask.into();
         if goes_on {
             self.span.take(sent.place);

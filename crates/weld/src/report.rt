@@ -1,4 +1,7 @@
 //! The report: what is seen in a run, in lines.
+ghost use Rattle.std.specs.Prelude.{IfOk};
+ghost use Rattle.weld.specs.Lines.{TellAll};
+
 use crate::failure::Failure;
 use crate::line::Line;
 use crate::passage::Event;
@@ -8,10 +11,15 @@ use std::io;
 
 /// The lines that tell what is seen: each thing is told in the last line, where that tells of a row of words that it carries on, or in a line
 /// of its own.
-pub(crate) fn lines(heap: Global, events: &[Event]) -> Result<Vec<Line>, Failure> {
+pub(crate) fn lines(heap: Global, events: &[Event]) -> Result<Vec<Line>, Failure>
+    ensures { IfOk result (λ v. TellAll events.now v.items) }
+{
     let mut lines: Vec<Line> = Vec::new(heap);
     for event in events {
-        let told = lines.last_mut().is_some_and(|line| line.takes(event));
+        let told = match lines.last_mut() {
+            Some(line) => line.takes(event),
+            None => false,
+        };
         if !told {
             lines.push(Line::from(event))?;
         }
@@ -31,7 +39,10 @@ pub(crate) fn opening(rt: &HostRuntime) -> io::Result<()> {
     println!(rt;
         "withheld ROW: after a loss no reading is handed out until 17 sealed words in a row have come, and ROW of them have"
     )?;
-    println!(rt; "false: a reading that is not the plaintext which was sealed")
+    println!(rt; "false: a reading that is not the plaintext which was sealed")?;
+    println!(rt;
+        "last line: the words that the sealer took, under any mask; of these the received; of those the handed out and the withheld; and the false"
+    )
 }
 
 /// Prints lines.

@@ -1,5 +1,6 @@
 //! The scenario: four messages, and what the joint of the pipe does to them.
-ghost use Rattle.std.specs.Prelude.{◌≡◌, ◌+◌, ◌*◌, ◌%◌};
+ghost use Rattle.std.specs.Prelude.{◌≡◌};
+ghost use Rattle.weld.specs.Scenario.{IsFateAt, mask_at, plain_at, thickness_at};
 
 use crate::span::Span;
 use link::SealerCall;
@@ -111,14 +112,16 @@ pub(crate) const PLANS: [Plan; 4] = [
 
 /// The wall thickness at a place, in hundredths of a millimetre.
 pub(crate) fn thickness(place: u16) -> u16
-    ensures { result ≡ 940 + place * 37 % 61 }
+    ensures { result ≡ thickness_at place }
 {
     940 + (u32::from(place) * 37 % 61) as u16
 }
 
 impl Plan {
     /// The call that seals the word at a place: the mileage at a mark, in an open word, and else the wall thickness.
-    pub(crate) fn word(&self, place: u16) -> SealerCall {
+    pub(crate) fn word(&self, place: u16) -> SealerCall
+        ensures { result ≡ SealerCall.Word (mask_at self.now place) (plain_at self.now place) }
+    {
         if self.marks.contains(&place) {
             let plain = MILEAGE.saturating_add(place);
             return SealerCall::Word { mask: OPEN, plain };
@@ -133,7 +136,9 @@ impl Plan {
     }
 
     /// What becomes of the word at a place.
-    pub(crate) fn fate(&self, place: u16) -> Fate {
+    pub(crate) fn fate(&self, place: u16) -> Fate
+        ensures { IsFateAt self.now place result }
+    {
         if self.altered == Some(place) {
             return Fate::Altered;
         }

@@ -1,4 +1,7 @@
 //! Numbers in a row.
+ghost use Rattle.std.specs.Prelude.{◌≡◌, ℕ, ◌+◌, ◌&&◌, ◌↔◌, IsTrue};
+ghost use Rattle.std.specs.Ordering.{partial_le};
+
 use std::fmt;
 
 /// Numbers that rise one by one, from the first to the last.
@@ -11,14 +14,19 @@ pub struct Span<T> {
 
 impl<T: PartialOrd> Span<T> {
     /// Whether this number is among them.
-    pub(crate) fn contains(&self, number: &T) -> bool {
+    pub(crate) fn contains(&self, number: &T) -> bool
+        ensures { result ≡ (partial_le T.partial_cmp self.now.first number.now && partial_le T.partial_cmp number.now self.now.last) }
+    {
         self.first <= *number && *number <= self.last
     }
 }
 
 impl<T: Copy + PartialEq + Into<u32>> Span<T> {
     /// One number.
-    pub(crate) fn of(number: T) -> Self {
+    pub(crate) fn of(number: T) -> Self
+        ensures first { result.first ≡ number }
+        ensures last { result.last ≡ number }
+    {
         Span {
             first: number,
             last: number,
@@ -26,17 +34,23 @@ impl<T: Copy + PartialEq + Into<u32>> Span<T> {
     }
 
     /// Whether there is one number.
-    pub(crate) fn is_one(&self) -> bool {
+    pub(crate) fn is_one(&self) -> bool
+        ensures { result ≡ T.eq self.now.first self.now.last }
+    {
         self.first == self.last
     }
 
     /// Whether this number comes next.
-    pub(crate) fn leads_to(&self, number: T) -> bool {
+    pub(crate) fn leads_to(&self, number: T) -> bool
+        ensures { (m n : ℕ) × T.converts self.now.last m × T.converts number n × (IsTrue result ↔ (n ≡ m + 1)) }
+    {
         self.last.into().checked_add(1) == Some(number.into())
     }
 
     /// Takes the next number in.
-    pub(crate) fn take(&mut self, number: T) {
+    pub(crate) fn take(&mut self, number: T)
+        ensures { self.new ≡ record self.old { last = number } }
+    {
         self.last = number;
     }
 }

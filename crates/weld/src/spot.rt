@@ -1,4 +1,9 @@
 //! A message of one word, sealed by hand and not by a list of calls.
+ghost use Rattle.std.specs.Prelude.{MatchResult};
+ghost use Rattle.link.specs.Issuing.{nonce_bytes};
+ghost use Rattle.weld.specs.Alone.{SealedAlone};
+ghost use Rattle.weld.specs.Runs.{the_key};
+
 use crate::failure::Failure;
 use crate::hex::Tag;
 use crate::scenario::{KEY, SEALED};
@@ -15,7 +20,9 @@ pub struct SpotCheck {
 }
 
 /// Begins a message, seals one word of it and finishes it.
-pub(crate) fn spot_check(nonce: Nonce, plain: u16) -> Result<SpotCheck, Failure> {
+pub(crate) fn spot_check(nonce: Nonce, plain: u16) -> Result<SpotCheck, Failure>
+    ensures { MatchResult result (SealedAlone the_key (nonce_bytes nonce) plain) (λ _. ⊥) }
+{
     // The run loads its key by the same two lines: one function for both is no plainer, since its contract is longer than they are.
     let mut function = FilledTable::new();
     function.load(&KEY)?;
@@ -32,7 +39,7 @@ impl fmt::Display for SpotCheck {
         let tag = Tag(*tag);
         write!(
             f,
-            "one word sealed by hand, in a message of its own: plaintext {plain:04x}, wire {wire:04x}, tag {tag}"
+            "a message of one word, sealed call by call, not sent across the joint and in no count: plaintext {plain:04x}, wire {wire:04x}, tag {tag}"
         )
     }
 }
