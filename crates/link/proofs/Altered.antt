@@ -230,8 +230,8 @@ module _ (f : ℕ → ℕ) (one : OneToOne f) where
 fed_back : (f : ℕ → ℕ) (r ps qs : List ℕ) → fed_words f r ps ≡ fed_words f r qs → ps ≡ qs
 unfolding fed_words ciphertext
 fed_back f r [] [] e = refl
-fed_back f r [] (q ∷ qs) e = absurd (let z : ◌≡◌ {A = ℕ} 0 1 = cc in omega arith)
-fed_back f r (p ∷ ps) [] e = absurd (let z : ◌≡◌ {A = ℕ} 0 1 = cc in omega arith)
+fed_back f r [] (q ∷ qs) e = absurd cc
+fed_back f r (p ∷ ps) [] e = absurd cc
 fed_back f r (p ∷ ps) (q ∷ qs) e =
     let pq : p ≡ q = xor_cancel p q (keystream f r) (ap (λ (x : List ℕ). get_or x 0 0) e) in
     let rest : ps ≡ qs =

@@ -1,5 +1,5 @@
 -- Each verdict is the one that the tag deserves.
-use Rattle.std.proofs.Common.{◌≡◌, ℕ, Bool, cond, eqb, ◌≢◌, ◌↔◌, List, [], ◌∷◌, map, sym, refl, ap, ◌∙◌, arith}
+use Rattle.std.proofs.Common.{◌≡◌, ℕ, Bool, cond, eqb, ◌≢◌, ◌↔◌, List, [], ◌∷◌, map, sym, refl, ap, ◌∙◌}
 use Rattle.std.specs.Str.{bytes_eq}
 use Rattle.std.proofs.lemmas.Slice.Eq.{bytes_eq-Decides}
 use Rattle.std.proofs.lemmas.Bool.{cond_both}
@@ -42,15 +42,15 @@ agrees_same : (received drawn : List ℕ) → (verdict_of HandOut received drawn
 agrees_same received drawn = (
   λ e. cond_both (bytes_eq received drawn) Agrees Differs (λ (v : Verdict). v ≡ Agrees → received ≡ drawn)
       (λ t. λ h. (bytes_eq-Decides received drawn).0 t)
-      (λ t. λ h. absurd (let z : ◌≡◌ {A = ℕ} 0 1 = cc in omega arith)) e,
+      (λ t. λ h. absurd cc) e,
   λ e. ap (λ (b : Bool). cond b Agrees Differs) ((bytes_eq-Decides received drawn).1 e),
 )
 
 never_broken : (received drawn : List ℕ) → verdict_of HandOut received drawn ≢ Broken
 never_broken received drawn =
     cond_both (bytes_eq received drawn) Agrees Differs (λ (v : Verdict). v ≢ Broken)
-    (λ t h. let z : ◌≡◌ {A = ℕ} 0 1 = cc in omega arith)
-    (λ t h. let z : ◌≡◌ {A = ℕ} 0 1 = cc in omega arith)
+    (λ t h. cc)
+    (λ t h. cc)
 
 module _ (f A : ℕ → ℕ) where
   -- after a begin: the tag drawn is that of the nonce and the words as they were received
@@ -74,7 +74,7 @@ module _ (f A : ℕ → ℕ) where
   judged_lost s received v is none =
       record {
         agrees = (
-          λ e. absurd (let z : ◌≡◌ {A = ℕ} 0 1 = cc in omega arith),
+          λ e. absurd cc,
           λ c. absurd (none c.0 c.1),
         );
         broken = (λ e. none, λ n. is);
@@ -96,7 +96,7 @@ module _ (f A : ℕ → ℕ) where
   unfolding message_tag opened_message
   judged_at s new ws received v p is =
       judged_lost (record { mark = new; words = ws }) received v
-      (lost_verdict s.reception new ws received (tag f s.registers) v p.4 refl is) (λ n e. let z : ◌≡◌ {A = ℕ} 0 1 = cc in omega arith)
+      (lost_verdict s.reception new ws received (tag f s.registers) v p.4 refl is) (λ n e. cc)
   judged_at s (begin nonce) ws received v p is =
       judged_whole ws nonce received (tag f s.registers) v
       (whole_verdict s.reception nonce ws received (tag f s.registers) v p.4 is)
@@ -105,10 +105,10 @@ module _ (f A : ℕ → ℕ) where
       all_received_taken f A (begun f A nonce) (map heard_wire ws)))
   judged_at s break ws received v p is =
       judged_lost (record { mark = break; words = ws }) received v
-      (lost_verdict s.reception break ws received (tag f s.registers) v p.4 refl is) (λ n e. let z : ◌≡◌ {A = ℕ} 0 1 = cc in omega arith)
+      (lost_verdict s.reception break ws received (tag f s.registers) v p.4 refl is) (λ n e. cc)
   judged_at s finish ws received v p is =
       judged_lost (record { mark = finish; words = ws }) received v
-      (lost_verdict s.reception finish ws received (tag f s.registers) v p.4 refl is) (λ n e. let z : ◌≡◌ {A = ℕ} 0 1 = cc in omega arith)
+      (lost_verdict s.reception finish ws received (tag f s.registers) v p.4 refl is) (λ n e. cc)
 
   pub judged : (s : ReceiverState) (st : Stretch) (received : List ℕ) (v : Verdict) → Present f A s st →
       v ≡ verdict_of (decided s.reception event.Finish).1 received (tag f s.registers) → Judged f A st received v

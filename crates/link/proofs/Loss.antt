@@ -1,5 +1,5 @@
 -- The law of a loss.
-use Rattle.std.proofs.Common.{◌≡◌, ◌↔◌, ℕ, ◌+◌, ltb, List, [], ◌∷◌, ◌++◌, map, Some, None, vec_items, Option, sym, refl, ap, ◌∙◌, subst, arith}
+use Rattle.std.proofs.Common.{◌≡◌, ◌↔◌, ℕ, ◌+◌, ltb, List, [], ◌∷◌, ◌++◌, map, Some, None, vec_items, Option, sym, refl, ap, ◌∙◌, subst}
 use Rattle.std.specs.List.{AllByRecursion as Every}
 use Rattle.std.proofs.lemmas.Bool.{cond_both}
 use Rattle.sss.specs.Cipher.{State, OneToOne, begun, plain_word, tag, taken, wire_word, drawn_from, sealed_message, opened_message, message_tag}
@@ -48,17 +48,17 @@ module _ (f A : ℕ → ℕ) where
       ((m : Message) × (earlier : List Message) × (ms ≡ m ∷ earlier) × (since ≡ record { start = Some m.nonce; words = m.words })) ×
       (t ≡ tag f (registers_of s))
   unfolding sealer_made
-  tag_drawn (ready g) (Begin n) t ms since o e = absurd (let z : ◌≡◌ {A = ℕ} 0 1 = cc in omega arith)
-  tag_drawn (ready g) (Seal mask p) t ms since o e = absurd (let z : ◌≡◌ {A = ℕ} 0 1 = cc in omega arith)
-  tag_drawn (ready g) Finish t ms since o e = absurd (let z : ◌≡◌ {A = ℕ} 0 1 = cc in omega arith)
-  tag_drawn (ready g) Abandon t ms since o e = absurd (let z : ◌≡◌ {A = ℕ} 0 1 = cc in omega arith)
-  tag_drawn (in_message n g) (Begin k) t ms since o e = absurd (let z : ◌≡◌ {A = ℕ} 0 1 = cc in omega arith)
+  tag_drawn (ready g) (Begin n) t ms since o e = absurd cc
+  tag_drawn (ready g) (Seal mask p) t ms since o e = absurd cc
+  tag_drawn (ready g) Finish t ms since o e = absurd cc
+  tag_drawn (ready g) Abandon t ms since o e = absurd cc
+  tag_drawn (in_message n g) (Begin k) t ms since o e = absurd cc
   tag_drawn (in_message n g) (Seal mask p) t ms since o e =
       absurd (cond_both (ltb n 65536) (in_message (n + 1) (taken f A g mask p), Sealed mask p (wire_word f g mask p))
       (in_message n g, Refused mask p Full) (λ (o : SealerState × SealerEntry). o.1 ≡ Finished t → ⊥)
-      (λ b h. let z : ◌≡◌ {A = ℕ} 0 1 = cc in omega arith) (λ b h. let z : ◌≡◌ {A = ℕ} 0 1 = cc in omega arith) e)
+      (λ b h. cc) (λ b h. cc) e)
   tag_drawn (in_message n g) Finish t ms since o e = (o, cc)
-  tag_drawn (in_message n g) Abandon t ms since o e = absurd (let z : ◌≡◌ {A = ℕ} 0 1 = cc in omega arith)
+  tag_drawn (in_message n g) Abandon t ms since o e = absurd cc
 
   -- A verdict in the log comes from a finish.
   verdict_given : (s : ReceiverState) (x : ReceiverCall) (t : List ℕ) (v : Verdict) → (receiver_made f A s x).1 ≡ Ended t v →
@@ -68,9 +68,9 @@ module _ (f A : ℕ → ℕ) where
       absurd (cond_both (nonce_fits (vec_items nonce))
       (record { reception = Whole; registers = begun f A (vec_items nonce) }, BegunThere nonce)
       (s, RefusedThere nonce Nonce) (λ (o : ReceiverState × ReceiverEntry). o.1 ≡ Ended t v → ⊥)
-      (λ b h. let z : ◌≡◌ {A = ℕ} 0 1 = cc in omega arith) (λ b h. let z : ◌≡◌ {A = ℕ} 0 1 = cc in omega arith) e)
-  verdict_given s (Take mask m) t v e = absurd (let z : ◌≡◌ {A = ℕ} 0 1 = cc in omega arith)
-  verdict_given s Break t v e = absurd (let z : ◌≡◌ {A = ℕ} 0 1 = cc in omega arith)
+      (λ b h. cc) (λ b h. cc) e)
+  verdict_given s (Take mask m) t v e = absurd cc
+  verdict_given s Break t v e = absurd cc
   verdict_given s (End u) t v e =
       let same : u ≡ t = cc in
       let is : verdict_of (decided s.reception event.Finish).1 u (tag f s.registers) ≡ v = cc in
@@ -79,7 +79,7 @@ module _ (f A : ℕ → ℕ) where
   -- A reading in the log is that of a word: it is opened with the registers as they were.
   told_reading : (r : Release) (q p : ℕ) → answer_of r q ≡ Reading p → q ≡ p
   told_reading HandOut q p e = cc
-  told_reading (Withhold n) q p e = absurd (let z : ◌≡◌ {A = ℕ} 0 1 = cc in omega arith)
+  told_reading (Withhold n) q p e = absurd cc
 
   reading_given : (s : ReceiverState) (x : ReceiverCall) (mask wire p : ℕ) → (receiver_made f A s x).1 ≡ Received mask wire (Reading p) →
       p ≡ plain_word f s.registers mask wire
@@ -88,15 +88,15 @@ module _ (f A : ℕ → ℕ) where
       absurd (cond_both (nonce_fits (vec_items nonce))
       (record { reception = Whole; registers = begun f A (vec_items nonce) }, BegunThere nonce)
       (s, RefusedThere nonce Nonce) (λ (o : ReceiverState × ReceiverEntry). o.1 ≡ Received mask wire (Reading p) → ⊥)
-      (λ b h. let z : ◌≡◌ {A = ℕ} 0 1 = cc in omega arith) (λ b h. let z : ◌≡◌ {A = ℕ} 0 1 = cc in omega arith) e)
+      (λ b h. cc) (λ b h. cc) e)
   reading_given s (Take k m) mask wire p e =
       let masks : k ≡ mask = cc in
       let wires : m ≡ wire = cc in
       let told : answer_of (decided s.reception (event.Word k)).1 (plain_word f s.registers k m) ≡ Reading p = cc in
       sym (told_reading (decided s.reception (event.Word k)).1 (plain_word f s.registers k m) p told) ∙
       (λ i. plain_word f s.registers (masks i) (wires i))
-  reading_given s Break mask wire p e = absurd (let z : ◌≡◌ {A = ℕ} 0 1 = cc in omega arith)
-  reading_given s (End t) mask wire p e = absurd (let z : ◌≡◌ {A = ℕ} 0 1 = cc in omega arith)
+  reading_given s Break mask wire p e = absurd cc
+  reading_given s (End t) mask wire p e = absurd cc
 
   -- The latest stretch, which the receiver is in.
   latest : (s : ReceiverState) (ss : List Stretch) → AllStretches f A s ss →
@@ -133,7 +133,7 @@ module _ (f A : ℕ → ℕ) (onef : OneToOne f) (oneA : OneToOne A) where
 
   closing_at : (before : List Entry) (t : List ℕ) (s : Ends) (x : Call) → Run f A s before → (made f A f A s x).1 ≡ OfSealer (Finished t) → Closing before t
   unfolding made
-  closing_at before t s (OnReceiver x) r h = absurd (let z : ◌≡◌ {A = ℕ} 0 1 = cc in omega arith)
+  closing_at before t s (OnReceiver x) r h = absurd cc
   closing_at before t s (OnSealer x) r h =
       let g = (good f A onef oneA r).sealer in
       let answer : (sealer_made f A s.sealer x).1 ≡ Finished t = cc in
@@ -168,7 +168,7 @@ module _ (f A : ℕ → ℕ) (onef : OneToOne f) (oneA : OneToOne A) where
   ending_at : (before : List Entry) (t : List ℕ) (v : Verdict) (s : Ends) (x : Call) → Run f A s before →
       (made f A f A s x).1 ≡ OfReceiver (Ended t v) → Ending before t v
   unfolding made
-  ending_at before t v s (OnSealer x) r h = absurd (let z : ◌≡◌ {A = ℕ} 0 1 = cc in omega arith)
+  ending_at before t v s (OnSealer x) r h = absurd cc
   ending_at before t v s (OnReceiver x) r h =
       let answer : (receiver_made f A s.receiver x).1 ≡ Ended t v = cc in
       let o = latest f A s.receiver (stretches before) (good f A onef oneA r).receiver.followed in
@@ -185,7 +185,7 @@ module _ (f A : ℕ → ℕ) (onef : OneToOne f) (oneA : OneToOne A) where
   reading_at : (before : List Entry) (mask wire p : ℕ) (s : Ends) (x : Call) → Run f A s before →
       (made f A f A s x).1 ≡ OfReceiver (Received mask wire (Reading p)) → p ≡ plain_word f (receiver_registers f A before) mask wire
   unfolding made
-  reading_at before mask wire p s (OnSealer x) r h = absurd (let z : ◌≡◌ {A = ℕ} 0 1 = cc in omega arith)
+  reading_at before mask wire p s (OnSealer x) r h = absurd cc
   reading_at before mask wire p s (OnReceiver x) r h =
       let answer : (receiver_made f A s.receiver x).1 ≡ Received mask wire (Reading p) = cc in
       reading_given f A s.receiver x mask wire p answer ∙ ap (λ (g : State). plain_word f g mask wire) (receiver_holds r)

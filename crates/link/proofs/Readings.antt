@@ -1,5 +1,5 @@
 -- Where a stretch is part of a message, no reading is false; and a message that is received as it was sent is read as it was given.
-use Rattle.std.proofs.Common.{◌≡◌, ℕ, suc, ◌+◌, Bool, cond, eqb, List, [], ◌∷◌, ◌++◌, map, length, get_or, drop, sym, refl, ap, ◌∙◌, subst, inl, inr, Some, None, arith, length-append}
+use Rattle.std.proofs.Common.{◌≡◌, ℕ, ◌+◌, Bool, cond, eqb, List, [], ◌∷◌, ◌++◌, map, length, get_or, drop, sym, refl, ap, ◌∙◌, subst, inl, inr, Some, None, arith, length-append}
 use lib.Bits.{bit_and, bit_xor}
 use Rattle.std.specs.List.{AllByRecursion as Every}
 use Rattle.std.proofs.lemmas.Bool.{cases_Bool, cond_both, eq-eqb, eqb-true}
@@ -166,8 +166,8 @@ right_one p q h =
 -- No false reading, and the same words: each reading is true.
 pub right : (xs : List Heard) (ys : List Sent) → map heard_wire xs ≡ map wire_of ys → false_readings xs ys ≡ 0 → TrueReadings xs ys
 right [] [] e z = tt
-right [] (y ∷ ys) e z = absurd (let n : 0 ≡ suc (length (map wire_of ys)) = ap length e in omega arith)
-right (x ∷ xs) [] e z = absurd (let n : suc (length (map heard_wire xs)) ≡ 0 = ap length e in omega arith)
+right [] (y ∷ ys) e z = absurd cc
+right (x ∷ xs) [] e z = absurd cc
 right (x ∷ xs) (y ∷ ys) e z =
     let z0 : false_reading x.answer y.plain ≡ 0 = omega arith in
     let zs : false_readings xs ys ≡ 0 = omega arith in
@@ -197,8 +197,8 @@ module _ (f A : ℕ → ℕ) (onef : OneToOne f) (oneA : OneToOne A) where
   whole_back : (g h : State) (xs : List Heard) (ys : List Sent) → g.r ≡ h.r → Follows f A Whole g xs → SealedFrom f A h ys →
       map heard_wire xs ≡ map wire_of ys → map (λ w. w.answer) xs ≡ map (λ w. Reading w.plain) ys
   whole_back g h [] [] a t u e = refl
-  whole_back g h [] (y ∷ ys) a t u e = absurd (let n : 0 ≡ suc (length (map wire_of ys)) = ap length e in omega arith)
-  whole_back g h (x ∷ xs) [] a t u e = absurd (let n : suc (length (map heard_wire xs)) ≡ 0 = ap length e in omega arith)
+  whole_back g h [] (y ∷ ys) a t u e = absurd cc
+  whole_back g h (x ∷ xs) [] a t u e = absurd cc
   whole_back g h (x ∷ xs) (y ∷ ys) a t u e =
       let same : heard_wire x ≡ wire_of y = first_same x xs y ys e in
       let first : x.answer ≡ Reading y.plain =

@@ -1,5 +1,5 @@
 -- What holds of both ends holds after any calls, and each beginning of a log is the log of a run.
-use Rattle.std.proofs.Common.{◌≡◌, ℕ, ◌⊎◌, List, [], ◌∷◌, ◌++◌, None, fold, sym, refl, subst, inl, inr, ⊎_elim, append-nil, ◌∙◌, arith}
+use Rattle.std.proofs.Common.{◌≡◌, ℕ, ◌⊎◌, List, [], ◌∷◌, ◌++◌, None, fold, sym, refl, subst, inl, inr, ⊎_elim, append-nil, ◌∙◌}
 use Rattle.std.specs.List.{AllByRecursion as Every}
 use Rattle.std.proofs.lemmas.List.Sums.{fold_push}
 use Rattle.sss.specs.Cipher.{OneToOne}
@@ -37,8 +37,8 @@ pub cut_push : {X : Type 0} (xs before later : List X) (x e : X) → xs ++ x ∷
     ((xs ≡ before) × (x ≡ e) × (later ≡ [])) ⊎ ((earlier : List X) × (xs ≡ before ++ e ∷ earlier) × (later ≡ earlier ++ x ∷ []))
 cut_push [] [] later x e q = inl (refl, cc, cc)
 cut_push (a ∷ xs) [] later x e q = let h : a ≡ e = cc in inr (xs, (λ i. h i ∷ xs), cc)
-cut_push [] (b ∷ []) later x e q = let z : ◌≡◌ {A = ℕ} 0 1 = cc in absurd (omega arith)
-cut_push [] (b ∷ c ∷ before) later x e q = let z : ◌≡◌ {A = ℕ} 0 1 = cc in absurd (omega arith)
+cut_push [] (b ∷ []) later x e q = absurd cc
+cut_push [] (b ∷ c ∷ before) later x e q = absurd cc
 cut_push (a ∷ xs) (b ∷ before) later x e q =
     let h : a ≡ b = cc in
     let t : xs ++ x ∷ [] ≡ before ++ e ∷ later = cc in
@@ -97,8 +97,8 @@ module _ (f A : ℕ → ℕ) where
   -- Each beginning of a log is the log of a run, and the next entry is what a call notes there.
   pub earlier_run : {s : Ends} {log : List Entry} → Run f A s log → (before later : List Entry) (e : Entry) → log ≡ before ++ e ∷ later →
       (s' : Ends) × Run f A s' before × ((x : Call) × ((made f A f A s' x).1 ≡ e))
-  earlier_run none [] later e q = let z : ◌≡◌ {A = ℕ} 0 1 = cc in absurd (omega arith)
-  earlier_run none (b ∷ before) later e q = let z : ◌≡◌ {A = ℕ} 0 1 = cc in absurd (omega arith)
+  earlier_run none [] later e q = absurd cc
+  earlier_run none (b ∷ before) later e q = absurd cc
   earlier_run (more {s} {log} r x fits) before later e q =
       ⊎_elim (λ l. (s, subst (Run f A s) l.0 r, (x, l.1))) (λ k. earlier_run r before k.0 e k.1)
       (cut_push log before later (made f A f A s x).1 e q)

@@ -196,10 +196,10 @@ heard_stands (st ∷ ss) s s' (Received mask wire answer) to h =
     let w : Heard = record { mask = mask; wire = wire; answer = answer } in
     (word_stands st.mark st.words s w h.0 to.1 s' to.0, word_withheld st.mark st.words s w h.0 to.1 h.1, h.2)
 heard_stands ss s s' BrokenOff to h =
-    mark_stands break ss s s' (other_stands break s' to (λ n e. let z : ◌≡◌ {A = ℕ} 0 1 = cc in omega arith)) h
+    mark_stands break ss s s' (other_stands break s' to (λ n e. cc)) h
 heard_stands ss s s' (Finished tag verdict) to h =
     mark_stands finish ss s s'
-    (other_stands finish s' to.0 (λ n e. let z : ◌≡◌ {A = ℕ} 0 1 = cc in omega arith)) h
+    (other_stands finish s' to.0 (λ n e. cc)) h
 
 -- An entry of the sealer leaves the receiver where it stands.
 abbrev pub EntryLeads : Reception → Entry → Reception → Type 0
@@ -209,7 +209,7 @@ EntryLeads s (OfReceiver e) s' = Leads s e s'
 -- A log of no entries, and one entry more, whatever the keyed functions answer.
 pub new_stands : Standing (stretches []) (Lost 0)
 unfolding stretches
-new_stands = (other_stands new (Lost 0) refl (λ n e. let z : ◌≡◌ {A = ℕ} 0 1 = cc in omega arith), none_withheld new, tt)
+new_stands = (other_stands new (Lost 0) refl (λ n e. cc), none_withheld new, tt)
 
 pub entry_stands : (log : List Entry) (s s' : Reception) (e : Entry) → EntryLeads s e s' → Standing (stretches log) s →
     Standing (stretches (log ++ e ∷ [])) s'
@@ -257,8 +257,8 @@ ended (st ∷ ss) s v h said = (
 
 -- A log of no entries, and one entry more.
 pub new_broken : BrokenExactly []
-new_broken [] later t v q = let z : ◌≡◌ {A = ℕ} 0 1 = cc in absurd (omega arith)
-new_broken (b ∷ before) later t v q = let z : ◌≡◌ {A = ℕ} 0 1 = cc in absurd (omega arith)
+new_broken [] later t v q = absurd cc
+new_broken (b ∷ before) later t v q = absurd cc
 
 pub entry_broken : (log : List Entry) (s s' : Reception) (e : Entry) → EntryLeads s e s' → Standing (stretches log) s → BrokenExactly log →
     BrokenExactly (log ++ e ∷ [])
