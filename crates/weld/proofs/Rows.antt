@@ -2,7 +2,7 @@
 use Rattle.std.proofs.Common.{◌≡◌, ℕ, ◌+◌, ◌-◌, ◌≤◌, true, List, [], ◌∷◌, ◌++◌, length, map, suc, sym, ap, ◌∙◌, subst, add-zero, length-append, arith}
 use Rattle.std.specs.List.{range_with_len}
 use Rattle.std.proofs.lemmas.List.FromFn.{map-range_with_len_more}
-use Rattle.weld.specs.Lines.{CarriesOn, IsEven, Telling, lost, readings_from, right, tells, withheld}
+use Rattle.weld.specs.Lines.{CarriesOn, PlacesFit, Telling, lost, readings_from, right, tells, withheld}
 use Rattle.weld.specs.Places.{IsKindOf, mask_of}
 use Rattle.weld.specs.declared.line.Line.TheVariants.{Lost, Withheld}
 use Rattle.weld.specs.declared.places.Kind.{Kind}
@@ -42,30 +42,30 @@ module _ (p p' : Places) (place mask : ℕ) (is : IsKindOf mask p.kind) (longer 
       let Carried : Places → Type 0 = λ q. CarriesOn true (Lost p) (lost place mask) (Lost q) in
       let row = row_more (λ n. lost n (mask_of p.kind)) p.span.first p.span.last place h longer.next in
       let own = ap (λ (m : ℕ). tells (Lost p) ++ lost place m ∷ []) (mask_is mask p.kind is) in
-      subst Carried (sym longer.taken) (record { telling = row ∙ own; even = omega (arith, longer.next) })
+      subst Carried (sym longer.taken) (record { telling = row ∙ own; fit = omega (arith, longer.next) })
 
-  pub withheld_more : (rows rows' : Span ℕ) (row : ℕ) → IsEven (Withheld p rows) → row ≡ rows.last + 1 → rows' ≡ record { first = rows.first; last = row } →
+  pub withheld_more : (rows rows' : Span ℕ) (row : ℕ) → PlacesFit (Withheld p rows) → row ≡ rows.last + 1 → rows' ≡ record { first = rows.first; last = row } →
       CarriesOn true (Withheld p rows) (withheld place mask row) (Withheld p' rows')
-  withheld_more rows rows' row even next rises =
+  withheld_more rows rows' row fit next rises =
       let Carried : Places → Span ℕ → Type 0 = λ q s. CarriesOn true (Withheld p rows) (withheld place mask row) (Withheld q s) in
-      let told = row_more (λ n. withheld n (mask_of p.kind) (rows.first + (n - p.span.first))) p.span.first p.span.last place even.0 longer.next in
-      let number : rows.first + (place - p.span.first) ≡ row = omega (arith, even.0, even.1, longer.next) in
+      let told = row_more (λ n. withheld n (mask_of p.kind) (rows.first + (n - p.span.first))) p.span.first p.span.last place fit.0 longer.next in
+      let number : rows.first + (place - p.span.first) ≡ row = omega (arith, fit.0, fit.1, longer.next) in
       let own : tells (Withheld p rows) ++ withheld place (mask_of p.kind) (rows.first + (place - p.span.first)) ∷ [] ≡ tells (Withheld p rows) ++ withheld place mask row ∷ [] =
       λ i. tells (Withheld p rows) ++ withheld place (mask_is mask p.kind is i) (number i) ∷ [] in
       subst (λ (q : Places). Carried q rows') (sym longer.taken) (subst (Carried (record { span = record { first = p.span.first; last = place }; kind = p.kind })) (sym rises)
-      (record { telling = told ∙ own; even = (omega (arith, even.0, longer.next), omega (arith, even.1, longer.next)) }))
+      (record { telling = told ∙ own; fit = (omega (arith, fit.0, longer.next), omega (arith, fit.1, longer.next)) }))
 
   pub read_more : (readings : List ℕ) (reading : ℕ) → p.span.first + length readings ≡ p.span.last + 1 →
       readings_from p'.span.first (mask_of p'.kind) (readings ++ reading ∷ []) ≡
       readings_from p.span.first (mask_of p.kind) readings ++ right place mask reading ∷ []
-  read_more readings reading even =
-      let at : p.span.first + length readings ≡ place = even ∙ sym longer.next in
+  read_more readings reading fit =
+      let at : p.span.first + length readings ≡ place = fit ∙ sym longer.next in
       (λ i. readings_from (longer.taken i).span.first (mask_of (longer.taken i).kind) (readings ++ reading ∷ [])) ∙
       readings_more p.span.first (mask_of p.kind) readings reading ∙
       (λ i. readings_from p.span.first (mask_of p.kind) readings ++ right (at i) (mask_is mask p.kind is i) reading ∷ [])
 
-  pub even_more : (readings : List ℕ) (reading : ℕ) → p.span.first + length readings ≡ p.span.last + 1 →
+  pub fit_more : (readings : List ℕ) (reading : ℕ) → p.span.first + length readings ≡ p.span.last + 1 →
       p'.span.first + length (readings ++ reading ∷ []) ≡ p'.span.last + 1
-  even_more readings reading even =
-      let Even : Places → Type 0 = λ q. q.span.first + length (readings ++ reading ∷ []) ≡ q.span.last + 1 in
-      subst Even (sym longer.taken) (omega (arith, length-append readings (reading ∷ []), even, longer.next))
+  fit_more readings reading fit =
+      let Fit : Places → Type 0 = λ q. q.span.first + length (readings ++ reading ∷ []) ≡ q.span.last + 1 in
+      subst Fit (sym longer.taken) (omega (arith, length-append readings (reading ∷ []), fit, longer.next))

@@ -61,28 +61,28 @@ tells (Ended tag verdict) = ended tag verdict ∷ []
 tells Abandoned = abandoned ∷ []
 
 -- A line has at least one place, and as many places as it has readings or rows.
-abbrev pub IsEven : Line → Type 0
-IsEven (Heading message nonce) = ⊤
-IsEven (Readings places values) = places.span.first + length values.items ≡ places.span.last + 1
-IsEven (False places reading plain) = places.span.first ≡ places.span.last
-IsEven (Withheld places rows) = (places.span.first ≤ places.span.last) × (rows.first + places.span.last ≡ rows.last + places.span.first)
-IsEven (Lost places) = places.span.first ≤ places.span.last
-IsEven (Altered places wire came) = places.span.first ≡ places.span.last
-IsEven Break = ⊤
-IsEven (Ended tag verdict) = ⊤
-IsEven Abandoned = ⊤
+abbrev pub PlacesFit : Line → Type 0
+PlacesFit (Heading message nonce) = ⊤
+PlacesFit (Readings places values) = places.span.first + length values.items ≡ places.span.last + 1
+PlacesFit (False places reading plain) = places.span.first ≡ places.span.last
+PlacesFit (Withheld places rows) = (places.span.first ≤ places.span.last) × (rows.first + places.span.last ≡ rows.last + places.span.first)
+PlacesFit (Lost places) = places.span.first ≤ places.span.last
+PlacesFit (Altered places wire came) = places.span.first ≡ places.span.last
+PlacesFit Break = ⊤
+PlacesFit (Ended tag verdict) = ⊤
+PlacesFit Abandoned = ⊤
 
 -- A line tells one thing.
 pub record TellsOne (thing : Telling) (line : Line) : Type 0 where
   pub telling : tells line ≡ thing ∷ []
-  pub even : IsEven line
+  pub fit : PlacesFit line
 
 -- A line that is offered one thing more: it tells that thing behind what it told, or it is left as it was.
 pub record CarriesOn (taken : Bool) (before : Line) (thing : Telling) (after : Line) : Type 0 where
   pub telling : MatchBool taken (tells after ≡ tells before ++ thing ∷ []) (after ≡ before)
-  pub even : IsEven after
+  pub fit : PlacesFit after
 
 -- The lines tell all that is seen, each thing once and in order.
 pub record TellAll (events : List Event) (lines : List Line) : Type 0 where
   pub telling : flat_map tells lines ≡ map told events
-  pub even : All IsEven lines
+  pub fit : All PlacesFit lines

@@ -1,6 +1,6 @@
 //! The lines of the report.
 ghost use Rattle.std.specs.Prelude.{Some, None};
-ghost use Rattle.weld.specs.Lines.{CarriesOn, IsEven, TellsOne, told, told_of_word};
+ghost use Rattle.weld.specs.Lines.{CarriesOn, PlacesFit, TellsOne, told, told_of_word};
 
 use crate::hex::{Hex, Tag};
 use crate::passage::{Event, Sent};
@@ -103,7 +103,7 @@ impl Line {
 
     /// Takes what is seen next into this line, where the line tells of a row of words that it carries on.
     pub(crate) fn takes(&mut self, event: &Event) -> bool
-        requires { IsEven self.old }
+        requires { PlacesFit self.old }
         ensures { CarriesOn result self.old (told event.now) self.new }
     {
         let Event::Word { sent, answer } = event else {
@@ -124,7 +124,7 @@ impl Line {
 
 /// Takes one more lost word in, if it follows.
 fn one_more_lost(places: &mut Places, sent: &Sent) -> bool
-    requires { IsEven (Line.Lost places.old) }
+    requires { PlacesFit (Line.Lost places.old) }
     ensures { CarriesOn result (Line.Lost places.old) (told_of_word sent.now None) (Line.Lost places.new) }
 {
     places.takes(sent)
@@ -132,7 +132,7 @@ fn one_more_lost(places: &mut Places, sent: &Sent) -> bool
 
 /// Takes one more withheld word in, if it follows and its row does.
 fn one_more_withheld(places: &mut Places, rows: &mut Span<u8>, sent: &Sent, row: u8) -> bool
-    requires { IsEven (Line.Withheld places.old rows.old) }
+    requires { PlacesFit (Line.Withheld places.old rows.old) }
     ensures { CarriesOn result (Line.Withheld places.old rows.old) (told_of_word sent.now (Some (Answer.Withheld row))) (Line.Withheld places.new rows.new) }
 {
     let goes_on = rows.leads_to(row) && places.takes(sent);
@@ -149,7 +149,7 @@ fn one_more_reading(
     sent: &Sent,
     reading: u16,
 ) -> bool
-    requires { IsEven (Line.Readings places.old values.old) }
+    requires { PlacesFit (Line.Readings places.old values.old) }
     ensures { CarriesOn result (Line.Readings places.old values.old) (told_of_word sent.now (Some (Answer.Reading reading))) (Line.Readings places.new values.new) }
 {
     let goes_on = reading == sent.plain && !values.is_full() && places.takes(sent);

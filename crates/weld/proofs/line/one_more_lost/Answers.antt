@@ -14,7 +14,7 @@ carried : (p p' : Places) (place mask : ℕ) (taken : Bool) → p.span.first ≤
     CarriesOn taken (Lost p) (lost place mask) (Lost p')
 carried p p' place mask true h follows more left = let next = follows.0 refl in lost_more p p' place mask next.1 (record { next = next.0; taken = more }) h
 carried p p' place mask false h follows more left =
-    record { telling = ap Lost left; even = subst (λ (q : Places). q.span.first ≤ q.span.last) (sym left) h }
+    record { telling = ap Lost left; fit = subst (λ (q : Places). q.span.first ≤ q.span.last) (sym left) h }
 
 pub returns : goal.returns
 returns c =

@@ -1,7 +1,7 @@
 use Rattle.std.proofs.Common.{◌≡◌, ℕ, true, false, sym, ◌∙◌, arith}
 use Rattle.std.specs.Bool.{◌==◌}
 use Rattle.std.proofs.lemmas.Bool.Decides.{nat_tests}
-use Rattle.weld.proofs.Rows.{Longer, even_more, read_more}
+use Rattle.weld.proofs.Rows.{Longer, fit_more, read_more}
 use Rattle.weld.proofs.line.one_more_reading.Goals as goal
 use Rattle.weld.proofs.line.one_more_reading.Goals.{then-reading-sent, else-reading-sent, then-not-is_full, else-not-is_full}
 
@@ -19,14 +19,14 @@ returns-then-goes_on c =
           let p = c.args.places.now in
           let p' = w.takes-goes_on.new.self in
           let told = read_more p p' c.args.sent.now.place c.args.sent.now.mask next.1 longer c.args.values.now.items c.args.reading c.requires in
-          let even = even_more p p' c.args.sent.now.place c.args.sent.now.mask next.1 longer c.args.values.now.items c.args.reading c.requires in
+          let fit = fit_more p p' c.args.sent.now.place c.args.sent.now.mask next.1 longer c.args.values.now.items c.args.reading c.requires in
           let alike : (c.args.reading == c.args.sent.now.plain) ≡ true = elim c.if-reading-sent.branch [
             | then-reading-sent v ↦ tested c.args.reading c.args.sent.now.plain v.if-reading-sent.true
             | else-reading-sent v ↦ sym v.value-is ∙ w.if-not-is_full.true
           ] in
           rw (c.if-goes_on.true, w.places-is, alike) (record {
             telling = rw c.push.ensures.items told;
-            even = rw c.push.ensures.items even;
+            fit = rw c.push.ensures.items fit;
           })
       | else-not-is_full w ↦ let no : false ≡ true = sym w.if-not-is_full.false ∙ sym w.goes_on-is ∙ c.if-goes_on.true in absurd (cc)
     ]

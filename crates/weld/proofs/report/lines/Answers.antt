@@ -4,7 +4,7 @@ use Rattle.std.proofs.Math.Seq.{take-suc}
 use Rattle.std.proofs.lemmas.Grind.{flat_map-append}
 use Rattle.std.proofs.lemmas.List.{map-append}
 use Rattle.std.proofs.lemmas.List.Elements.{All-push, All-same, All-set}
-use Rattle.weld.specs.Lines.{IsEven, TellAll, Telling, tells, told}
+use Rattle.weld.specs.Lines.{PlacesFit, TellAll, Telling, tells, told}
 use Rattle.weld.specs.declared.line.Line.{Line}
 use Rattle.weld.specs.declared.passage.Event.{Event}
 use Rattle.weld.proofs.report.lines.Goals as goal
@@ -29,12 +29,12 @@ line_more lines line before thing told_before says =
 
 -- Lines that tell the next thing that is seen too.
 all_told : (events : List Event) (i : ℕ) (d : Event) (lines after : List Line) → i < length events → TellAll (take i events) lines →
-    flat_map tells after ≡ flat_map tells lines ++ told (get_or events i d) ∷ [] → All IsEven after → TellAll (take (i + 1) events) after
-all_told events i d lines after h so_far says even =
+    flat_map tells after ≡ flat_map tells lines ++ told (get_or events i d) ∷ [] → All PlacesFit after → TellAll (take (i + 1) events) after
+all_told events i d lines after h so_far says fit =
     let thing = told (get_or events i d) in
     let all : map told (take (suc i) events) ≡ map told (take i events) ++ thing ∷ [] =
     ap (map told) (take-suc events i d h) ∙ map-append told (take i events) (get_or events i d ∷ []) in
-    rw add-one (record { telling = says ∙ ap (λ (ts : List Telling). ts ++ thing ∷ []) so_far.telling ∙ sym all; even = even })
+    rw add-one (record { telling = says ∙ ap (λ (ts : List Telling). ts ++ thing ∷ []) so_far.telling ∙ sym all; fit = fit })
 
 pub loop-event-preserved : goal.loop-event-preserved
 loop-event-preserved c =
@@ -47,7 +47,7 @@ loop-event-preserved c =
           let after = w.takes-told.new.self in
           let count : length lines.items ≡ last + 1 = omega (arith, lines.ok.0, w.in-Some.ensures.variant.0 refl) in
           let items = ap (λ v. v.items) w.lines-is in
-          let even = All-set IsEven lines.items last after w.takes-told.ensures.even so_far.even in
+          let fit = All-set PlacesFit lines.items last after w.takes-told.ensures.fit so_far.fit in
           elim c.if-not-told.branch [
             | then-not-told+in_ok-push v ↦
                 let stayed : w.takes-told.result ≡ false = sym w.told-is ∙ v.if-not-told.true in
@@ -56,19 +56,19 @@ loop-event-preserved c =
                 let pushed = v.in_ok-push.ensures.items ∙ (λ i. items i ++ v.from.result ∷ []) in
                 rw v.lines-is (thing_told lines.items v.push.new.self.items c.loop-event-test.true so_far
                 (ap (flat_map tells) pushed ∙ line_more (set lines.items last after) v.from.result (flat_map tells lines.items) _ (told_before ∙ append-nil _) v.from.ensures.telling)
-                (All-same IsEven _ _ pushed (All-push IsEven (set lines.items last after) v.from.result even v.from.ensures.even)))
+                (All-same PlacesFit _ _ pushed (All-push PlacesFit (set lines.items last after) v.from.result fit v.from.ensures.fit)))
             | else-not-told v ↦
                 let went : w.takes-told.result ≡ true = sym w.told-is ∙ v.if-not-told.false in
                 let says = rw went at w.takes-told.ensures.telling in
                 rw (v.lines-is, w.lines-is) (thing_told lines.items (set lines.items last after) c.loop-event-test.true so_far
-                (last_more lines.items last w.in-Some.line.now after _ count w.in-Some.ensures.value says) even)
+                (last_more lines.items last w.in-Some.line.now after _ count w.in-Some.ensures.value says) fit)
           ]
       | in-None w ↦ elim c.if-not-told.branch [
         | then-not-told+in_ok-push v ↦
             let pushed = v.in_ok-push.ensures.items ∙ ap (λ now. now.items ++ v.from.result ∷ []) w.lines-is in
             rw v.lines-is (thing_told lines.items v.push.new.self.items c.loop-event-test.true so_far
             (ap (flat_map tells) pushed ∙ line_more lines.items v.from.result (flat_map tells lines.items) _ refl v.from.ensures.telling)
-            (All-same IsEven _ _ pushed (All-push IsEven lines.items v.from.result so_far.even v.from.ensures.even)))
+            (All-same PlacesFit _ _ pushed (All-push PlacesFit lines.items v.from.result so_far.fit v.from.ensures.fit)))
         | else-not-told v ↦ let no : false ≡ true = sym w.told-is ∙ v.if-not-told.false in absurd (cc)
       ]
     ]
