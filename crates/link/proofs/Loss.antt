@@ -231,17 +231,28 @@ module _ (f A : ℕ → ℕ) (onef : OneToOne f) (oneA : OneToOne A) where
   first_same : {X : Type 0} (x y : X) (xs ys : List X) → x ∷ xs ≡ y ∷ ys → x ≡ y
   first_same x y xs ys e = cc
 
+  -- What the sealer finished is the message, and what the receiver ended is the stretch.
+  sent_of : {s : Ends} {log : List Entry} → Run f A s log → (u : Unbroken log) →
+      (c : Closing u.sealer_before u.sent_tag) × (c.message ≡ u.message)
+  sent_of run u =
+      let c = closing run u.sealer_before u.sealer_later u.sent_tag u.sealer_finished in
+      (c, first_same c.message u.message c.earlier u.earlier (sym c.latest_is ∙ u.message_is))
+
+  heard_of : {s : Ends} {log : List Entry} → Run f A s log → (u : Unbroken log) →
+      (d : Ending u.receiver_before u.heard_tag u.verdict) × (d.stretch ≡ u.stretch)
+  heard_of run u =
+      let d = ending run u.receiver_before u.receiver_later u.heard_tag u.verdict u.receiver_finished in
+      (d, first_same d.stretch u.stretch d.others u.others (sym d.latest_is ∙ u.stretch_is))
+
   same_nonce : (n k : List ℕ) → begin n ≡ begin k → n ≡ k
   same_nonce n k e = cc
 
   unbroken : {s : Ends} {log : List Entry} → Run f A s log → (u : Unbroken log) →
       FromOne u.message (sealer_registers f A u.sealer_before) (receiver_registers f A u.receiver_before) u.stretch.words
   unbroken run u =
-      let c = closing run u.sealer_before u.sealer_later u.sent_tag u.sealer_finished in
-      let d = ending run u.receiver_before u.receiver_later u.heard_tag u.verdict u.receiver_finished in
+      let (c, m) = sent_of run u in
+      let (d, st) = heard_of run u in
       let b : List ℕ → State = λ n. begun f A n in
-      let m : c.message ≡ u.message = first_same c.message u.message c.earlier u.earlier (sym c.latest_is ∙ u.message_is) in
-      let st : d.stretch ≡ u.stretch = first_same d.stretch u.stretch d.others u.others (sym d.latest_is ∙ u.stretch_is) in
       let sealed : SealedMessage f A u.message = subst (SealedMessage f A) m c.sealed in
       let p : Present f A d.receiver u.stretch = subst (Present f A d.receiver) st d.present in
       let starts = subst (λ (k : Mark). Starts f A k p.0) u.begun_with p.2 in
@@ -265,10 +276,8 @@ module _ (f A : ℕ → ℕ) (onef : OneToOne f) (oneA : OneToOne A) where
       map heard_wire u.stretch.words ≡ map wire_of u.message.words → (u.verdict ≡ Agrees) ↔ (u.heard_tag ≡ u.sent_tag)
   unfolding sealed_message
   tag_agrees run u same =
-      let c = closing run u.sealer_before u.sealer_later u.sent_tag u.sealer_finished in
-      let d = ending run u.receiver_before u.receiver_later u.heard_tag u.verdict u.receiver_finished in
-      let m : c.message ≡ u.message = first_same c.message u.message c.earlier u.earlier (sym c.latest_is ∙ u.message_is) in
-      let st : d.stretch ≡ u.stretch = first_same d.stretch u.stretch d.others u.others (sym d.latest_is ∙ u.stretch_is) in
+      let (c, m) = sent_of run u in
+      let (d, st) = heard_of run u in
       let nonce : List ℕ = u.message.nonce in
       let heard : List MaskedWord = map heard_wire u.stretch.words in
       let sealed : SealedMessage f A u.message = subst (SealedMessage f A) m c.sealed in
