@@ -1,7 +1,7 @@
 -- The number, the place and the layer of each refusal.
 use Rattle.std.specs.Prelude.{ℕ}
 use Rattle.sss.specs.declared.fault.Fault.{Fault}
-use Rattle.sss.specs.declared.fault.Fault.TheVariants.{Key, Table, Nonce, Exhausted, Full}
+use Rattle.sss.specs.declared.fault.Fault.TheVariants.{Key, Table, Nonce, Exhausted, Full, UnknownCommand, CutOff, NoRoom, TooLong}
 use Rattle.sss.specs.declared.fault.Layer.{Layer}
 use Rattle.sss.specs.declared.fault.Layer.TheVariants as layer
 
@@ -11,14 +11,22 @@ number_of Table = 2
 number_of Nonce = 3
 number_of Exhausted = 4
 number_of Full = 5
+number_of (UnknownCommand place) = 11
+number_of (CutOff place) = 12
+number_of (NoRoom place) = 13
+number_of TooLong = 14
 
--- The place on a tape where it was found: 0, since none of these comes from a tape.
+-- The place on a tape where it was found, and 0 for one that comes from no tape.
 abbrev pub place_of : Fault → ℕ
 place_of Key = 0
 place_of Table = 0
 place_of Nonce = 0
 place_of Exhausted = 0
 place_of Full = 0
+place_of (UnknownCommand place) = place
+place_of (CutOff place) = place
+place_of (NoRoom place) = place
+place_of TooLong = 0
 
 abbrev pub layer_of : Fault → Layer
 layer_of Key = layer.Key
@@ -26,3 +34,7 @@ layer_of Table = layer.Key
 layer_of Nonce = layer.Message
 layer_of Exhausted = layer.Message
 layer_of Full = layer.Message
+layer_of (UnknownCommand place) = layer.Tape
+layer_of (CutOff place) = layer.Tape
+layer_of (NoRoom place) = layer.Tape
+layer_of TooLong = layer.Message

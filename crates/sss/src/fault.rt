@@ -5,7 +5,7 @@ ghost use Rattle.sss.specs.Faults.{number_of, place_of, layer_of};
 /// A refusal. Whatever refuses leaves everything as it found it, unless its contract says otherwise.
 #[derive(Clone, Copy, PartialEq, Eq, Debug)]
 pub enum Fault {
-    /// A key of no bytes or of more than sixteen.
+    /// A key of no bytes, of more than sixteen, or cut short.
     Key,
     /// A table that has not 256 words, or whose function would not be one-to-one.
     Table,
@@ -15,6 +15,14 @@ pub enum Fault {
     Exhausted,
     /// The message has 65,536 words already.
     Full,
+    /// The byte at this place of a tape is the byte of no command.
+    UnknownCommand(usize),
+    /// The tape ends within the command at this place.
+    CutOff(usize),
+    /// A command does not fit into what is left of a tape from this place on.
+    NoRoom(usize),
+    /// The input to be listed has more than 65,536 bytes.
+    TooLong,
 }
 
 /// The part of the product that a refusal comes from.
@@ -24,6 +32,8 @@ pub enum Layer {
     Key,
     /// Calls on a message.
     Message,
+    /// Reading and writing a tape.
+    Tape,
 }
 
 impl Fault {
@@ -38,6 +48,10 @@ impl Fault {
             Fault::Nonce => 3,
             Fault::Exhausted => 4,
             Fault::Full => 5,
+            Fault::UnknownCommand(_) => 11,
+            Fault::CutOff(_) => 12,
+            Fault::NoRoom(_) => 13,
+            Fault::TooLong => 14,
         }
     }
 
@@ -47,7 +61,13 @@ impl Fault {
         ensures { result ≡ place_of self }
     {
         match self {
-            Fault::Key | Fault::Table | Fault::Nonce | Fault::Exhausted | Fault::Full => 0,
+            Fault::UnknownCommand(place) | Fault::CutOff(place) | Fault::NoRoom(place) => place,
+            Fault::Key
+            | Fault::Table
+            | Fault::Nonce
+            | Fault::Exhausted
+            | Fault::Full
+            | Fault::TooLong => 0,
         }
     }
 
@@ -57,7 +77,8 @@ impl Fault {
     {
         match self {
             Fault::Key | Fault::Table => Layer::Key,
-            Fault::Nonce | Fault::Exhausted | Fault::Full => Layer::Message,
+            Fault::Nonce | Fault::Exhausted | Fault::Full | Fault::TooLong => Layer::Message,
+            Fault::UnknownCommand(_) | Fault::CutOff(_) | Fault::NoRoom(_) => Layer::Tape,
         }
     }
 }

@@ -152,6 +152,8 @@ fn refused(fault: &Fault) -> &'static str {
         Fault::Table => "the table",
         Fault::Nonce => "the nonce",
         Fault::Exhausted | Fault::Full => "the message",
+        Fault::UnknownCommand(_) | Fault::CutOff(_) | Fault::NoRoom(_) => "the tape",
+        Fault::TooLong => "the input",
     }
 }
 
