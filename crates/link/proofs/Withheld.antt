@@ -149,32 +149,32 @@ all_withheld [] s h = absurd h
 all_withheld (st ∷ ss) s h = (h.1, h.2)
 
 -- After a begin the receiver is whole, and after any other mark it is lost with row 0.
-begin_stands : (nonce : List ℕ) (s : Reception) → s ≡ Whole → Stands (begin nonce) [] s
+pub begin_stands : (nonce : List ℕ) (s : Reception) → s ≡ Whole → Stands (begin nonce) [] s
 begin_stands nonce s whole = record { after_begin = λ n e. whole; after_other = λ none. absurd (none nonce refl) }
 
-other_stands : (m : Mark) (s : Reception) → s ≡ Lost 0 → ((nonce : List ℕ) → m ≢ begin nonce) → Stands m [] s
+pub other_stands : (m : Mark) (s : Reception) → s ≡ Lost 0 → ((nonce : List ℕ) → m ≢ begin nonce) → Stands m [] s
 other_stands m s lost none =
     record { after_begin = λ n e. absurd (none n e); after_other = λ ne. subst (Counted []) (sym lost) none_seen }
 
 -- A new mark, with no words yet.
-none_withheld : (m : Mark) → Withholds (record { mark = m; words = [] })
+pub none_withheld : (m : Mark) → Withholds (record { mark = m; words = [] })
 none_withheld m = record {
   after_begin = λ nonce e. tt;
   after_other = λ ne front w back e. absurd (omega (arith, ap length e, length-append front (w ∷ back)));
 }
 
-mark_stands : (m : Mark) (ss : List Stretch) (s s' : Reception) → Stands m [] s' → Standing ss s → Standing (marked m ss) s'
+pub mark_stands : (m : Mark) (ss : List Stretch) (s s' : Reception) → Stands m [] s' → Standing ss s → Standing (marked m ss) s'
 mark_stands m ss s s' at h = (at, none_withheld m, all_withheld ss s h)
 
 -- One more word of the present stretch.
 module _ (m : Mark) (ws : List Heard) (s : Reception) (w : Heard) (at : Stands m ws s) (said : Told s w) where
-  word_stands : (s' : Reception) → s' ≡ moved s w.mask → Stands m (ws ++ w ∷ []) s'
+  pub word_stands : (s' : Reception) → s' ≡ moved s w.mask → Stands m (ws ++ w ∷ []) s'
   word_stands s' to = record {
     after_begin = λ nonce e. to ∙ ap (λ (x : Reception). moved x w.mask) (at.after_begin nonce e);
     after_other = λ none. subst (Counted (ws ++ w ∷ [])) (sym to) (counted_more ws w s (at.after_other none));
   }
 
-  word_withheld : Withholds (record { mark = m; words = ws }) → Withholds (record { mark = m; words = ws ++ w ∷ [] })
+  pub word_withheld : Withholds (record { mark = m; words = ws }) → Withholds (record { mark = m; words = ws ++ w ∷ [] })
   word_withheld h = record {
     after_begin = λ nonce e.
         every_push HandedOut ws w (h.after_begin nonce e)

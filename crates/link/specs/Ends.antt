@@ -25,6 +25,8 @@ use Rattle.link.specs.declared.call.ReceiverEntry.TheVariants as receiver
 use Rattle.link.specs.declared.reception.Reception.{Reception}
 use Rattle.link.specs.declared.reception.Reception.TheVariants.{Lost, Whole}
 use Rattle.link.specs.declared.reception.Event.TheVariants as event
+use Rattle.link.specs.declared.reception.Answer.{Answer}
+use Rattle.link.specs.declared.reception.Verdict.{Verdict}
 use Rattle.link.specs.declared.receiver.Receiver.{Receiver}
 use Rattle.link.specs.declared.ends.Sealer.{Sealer}
 use Rattle.link.specs.declared.ends.Sealer.TheVariants.{Ready, Open}
@@ -80,21 +82,29 @@ sealer_made f A (in_message n g) on_sealer.Abandon = (ready zeroed, sealer.Aband
 abbrev pub nonce_fits : List ℕ → Bool
 nonce_fits bytes = length bytes % 2 == 0 && nat_le (length bytes) 32
 
+-- What the receiver makes of a begin whose nonce fits, of a word, of a break and of a tag: where it then stands, and the answer if there is one.
+abbrev pub nonce_heard : (ℕ → ℕ) → (ℕ → ℕ) → List ℕ → ReceiverState
+nonce_heard f A nonce = record { reception = Whole; registers = begun f A nonce }
+
+abbrev pub word_heard : (ℕ → ℕ) → (ℕ → ℕ) → ReceiverState → (mask wire : ℕ) → ReceiverState × Answer
+word_heard f A s mask m =
+    let p : ℕ = plain_word f s.registers mask m in
+    let d = decided s.reception (event.Word mask) in
+    (record { reception = d.0; registers = taken f A s.registers mask p }, answer_of d.1 p)
+
+abbrev pub break_heard : ReceiverState → ReceiverState
+break_heard s = record { reception = Lost 0; registers = s.registers }
+
+abbrev pub tag_heard : (ℕ → ℕ) → ReceiverState → List ℕ → ReceiverState × Verdict
+tag_heard f s t = (record { reception = Lost 0; registers = zeroed }, verdict_of (decided s.reception event.Finish).1 t (tag f s.registers))
+
 -- A call on the receiver: where it then stands, and what the log notes.
 unfoldable pub receiver_made : (ℕ → ℕ) → (ℕ → ℕ) → ReceiverState → ReceiverCall → ReceiverState × ReceiverEntry
 receiver_made f A s (on_receiver.Begin nonce) =
-    cond (nonce_fits (vec_items nonce))
-    (record { reception = Whole; registers = begun f A (vec_items nonce) }, receiver.Begun nonce)
-    (s, receiver.Refused nonce UnfitNonce)
-receiver_made f A s (on_receiver.Word mask m) =
-    let p : ℕ = plain_word f s.registers mask m in
-    let d = decided s.reception (event.Word mask) in
-    (record { reception = d.0; registers = taken f A s.registers mask p }, receiver.Received mask m (answer_of d.1 p))
-receiver_made f A s on_receiver.Break = (record { reception = Lost 0; registers = s.registers }, receiver.BrokenOff)
-receiver_made f A s (on_receiver.Finish t) = (
-  record { reception = Lost 0; registers = zeroed },
-  receiver.Finished t (verdict_of (decided s.reception event.Finish).1 t (tag f s.registers)),
-)
+    cond (nonce_fits (vec_items nonce)) (nonce_heard f A (vec_items nonce), receiver.Begun nonce) (s, receiver.Refused nonce UnfitNonce)
+receiver_made f A s (on_receiver.Word mask m) = let h = word_heard f A s mask m in (h.0, receiver.Received mask m h.1)
+receiver_made f A s on_receiver.Break = (break_heard s, receiver.BrokenOff)
+receiver_made f A s (on_receiver.Finish t) = let h = tag_heard f s t in (h.0, receiver.Finished t h.1)
 
 -- What an entry of the receiver says whatever the keyed function answers: where the receiver then stands, whether a word was handed out, the
 -- row of one that was not, and whether a verdict is broken.

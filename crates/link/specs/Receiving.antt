@@ -1,5 +1,6 @@
 -- What a receiver hands out and what it withholds.
-use Rattle.std.specs.Prelude.{◌≡◌, ℕ, ◌+◌, cond, List, ◌==◌}
+use Rattle.std.specs.Prelude.{◌≡◌, ℕ, ◌+◌, ◌/◌, ◌%◌, cond, false, List, [], ◌∷◌, ◌++◌, ◌==◌, codes}
+use Rattle.std.specs.Fmt.{decimal, digit_glyph}
 use Rattle.std.specs.Str.{bytes_eq}
 use Rattle.link.specs.declared.reception.Reception.{Reception}
 use Rattle.link.specs.declared.reception.Reception.TheVariants.{Whole, Caught, Lost}
@@ -64,3 +65,20 @@ Given HandOut Broken = ⊥
 Given (Withhold n) Agrees = ⊥
 Given (Withhold n) Differs = ⊥
 Given (Withhold n) Broken = Unit {0}
+
+-- A byte, and a word, in lower-case hexadecimal digits.
+abbrev pub hex_of_byte : ℕ → List ℕ
+hex_of_byte b = digit_glyph false (b / 16) ∷ digit_glyph false (b % 16) ∷ []
+
+abbrev pub hex_of_word : ℕ → List ℕ
+hex_of_word w = hex_of_byte (w / 256) ++ hex_of_byte (w % 256)
+
+-- An answer and a verdict as they are printed.
+abbrev pub answer_text : Answer → List ℕ
+answer_text (Reading plain) = codes "reading " ++ hex_of_word plain
+answer_text (Withheld row) = codes "withheld " ++ decimal row
+
+abbrev pub verdict_text : Verdict → List ℕ
+verdict_text Agrees = codes "agrees"
+verdict_text Differs = codes "differs"
+verdict_text Broken = codes "broken"

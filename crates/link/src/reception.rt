@@ -1,6 +1,8 @@
 //! What a receiver hands out and what it withholds.
-ghost use Rattle.std.specs.Prelude.{◌≡◌, ◌≤◌};
-ghost use Rattle.link.specs.Receiving.{decided, row_of};
+ghost use Rattle.std.specs.Prelude.{◌≡◌, ◌≤◌, Some};
+ghost use Rattle.link.specs.Receiving.{answer_text, decided, row_of, verdict_text};
+
+use std::fmt;
 
 /// Where a receiver stands.
 #[derive(Clone, Copy, PartialEq, Eq, Debug)]
@@ -51,6 +53,34 @@ pub enum Verdict {
     Differs,
     /// A loss was told since the begin, or no message was begun.
     Broken,
+}
+
+impl fmt::Display for Answer {
+    ghost output = { λ answer. Some (answer_text answer) };
+
+    /// A reading in four lower-case hexadecimal digits, the high byte first; a row in decimal.
+    #[tactic(auto, using(std::proofs::lemmas::Fmt::hex_byte))]
+    fn fmt<W: fmt::Write>(&self, f: &mut fmt::Formatter<W>) -> fmt::Result {
+        match self {
+            Answer::Reading(plain) => {
+                let [high, low] = plain.to_be_bytes();
+                write!(f, "reading {high:02x}{low:02x}")
+            }
+            Answer::Withheld(row) => write!(f, "withheld {row}"),
+        }
+    }
+}
+
+impl fmt::Display for Verdict {
+    ghost output = { λ verdict. Some (verdict_text verdict) };
+
+    fn fmt<W: fmt::Write>(&self, f: &mut fmt::Formatter<W>) -> fmt::Result {
+        match self {
+            Verdict::Agrees => write!(f, "agrees"),
+            Verdict::Differs => write!(f, "differs"),
+            Verdict::Broken => write!(f, "broken"),
+        }
+    }
 }
 
 /// The receiver's state and the call together decide where it stands next and what it hands out. A lost receiver withholds every word,

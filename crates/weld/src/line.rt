@@ -159,15 +159,6 @@ fn one_more_reading(
     goes_on
 }
 
-/// What is said of a verdict.
-fn judgement(verdict: Verdict) -> &'static str {
-    match verdict {
-        Verdict::Agrees => "agrees",
-        Verdict::Differs => "differs",
-        Verdict::Broken => "broken",
-    }
-}
-
 impl fmt::Display for Line {
     fn fmt<W: fmt::Write>(&self, f: &mut fmt::Formatter<W>) -> fmt::Result {
         match self {
@@ -203,7 +194,7 @@ impl fmt::Display for Line {
             Line::Break => write!(f, "  break: the receiver is told of the loss"),
             Line::Ended { tag, verdict } => {
                 let tag = Tag(*tag);
-                write!(f, "  tag {tag}: verdict {}", judgement(*verdict))
+                write!(f, "  tag {tag}: verdict {verdict}")
             }
             Line::Abandoned => write!(f, "  abandoned by the sealer: no tag, no verdict"),
         }
