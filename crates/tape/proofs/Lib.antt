@@ -1,0 +1,12 @@
+pub mod Operands
+pub mod Spelled
+pub mod Finding
+pub mod Onward
+pub mod OneWay
+pub mod Asking
+pub mod Appended
+pub mod Rewritten
+pub mod OnTape
+pub mod LineForEach
+pub mod Told
+pub mod Listed

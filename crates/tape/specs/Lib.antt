@@ -1,0 +1,12 @@
+pub mod Octets
+pub mod Format
+pub mod Items
+pub mod Reading
+pub mod Writing
+pub mod Lines
+pub mod Replaying
+pub mod Inputs
+pub mod Withholding
+pub mod LineByLine
+pub mod Runs
+pub mod Listing
