@@ -30,6 +30,22 @@ mod tests {
     }
 
     #[test]
+    fn the_faults_of_whole_messages_have_their_numbers(rt: HostRuntime) {
+        let faults = [
+            (Fault::Input, 6),
+            (Fault::Masks, 7),
+            (Fault::Output, 8),
+            (Fault::TagLength, 9),
+            (Fault::TagDiffers, 10),
+        ];
+        for (fault, number) in faults {
+            assert_eq!(rt; fault.number(), number);
+            assert_eq!(rt; fault.place(), 0);
+            assert_eq!(rt; fault.layer(), Layer::Message);
+        }
+    }
+
+    #[test]
     fn a_refused_key_keeps_the_old_function(rt: HostRuntime) {
         let mut f = FromKey::new();
         assert_eq!(rt; f.apply(0x1234), 0x1234);

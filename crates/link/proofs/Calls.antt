@@ -1,11 +1,11 @@
 -- The calls whose answer a test decides, a word of a message that may be full and a begin whose nonce may not fit; and how a call is noted.
-use Rattle.std.proofs.Common.{◌≡◌, ℕ, ◌+◌, ◌%◌, ◌<◌, ◌≤◌, true, false, eqb, leb, List, [], ◌∷◌, ◌++◌, length, get_or, ap, ◌∙◌, inl, inr}
+use Rattle.std.proofs.Common.{◌≡◌, ℕ, ◌+◌, ◌<◌, ◌≤◌, List, [], ◌∷◌, ◌++◌, get_or, ap, ◌∙◌}
 use Rattle.std.specs.List.{AllByRecursion as Every}
-use Rattle.std.proofs.lemmas.Bool.{lt-ltb, le-ltb, le-leb, leb-true, eq-eqb, eqb-true, cases_Bool, and_from, and_parts}
-use Rattle.sss.specs.Cipher.{State, NonceFits, taken, wire_word}
+use Rattle.std.proofs.lemmas.Bool.{lt-ltb, le-ltb}
+use Rattle.sss.specs.Cipher.{State, taken, wire_word}
 use Rattle.sss.specs.declared.Fault.{Fault}
 use Rattle.sss.specs.declared.Fault.TheVariants.{Full}
-use Rattle.link.specs.Ends.{SealerState, in_message, sealer_made, ReceiverState, receiver_made, nonce_fits, made, one_call}
+use Rattle.link.specs.Ends.{SealerState, in_message, sealer_made, ReceiverState, receiver_made, made, one_call}
 use Rattle.link.specs.declared.call.SealerCall.{SealerCall}
 use Rattle.link.specs.declared.issuer.Nonce.{Nonce}
 use Rattle.link.specs.declared.call.SealerCall.TheVariants.{Word as Seal}
@@ -28,18 +28,6 @@ module _ (f A : ℕ → ℕ) (n n' : ℕ) (g g' : State) (mask p : ℕ) where
       (in_message n' g', Refused mask p fault) ≡ sealer_made f A (in_message n g) (Seal mask p)
   unfolding sealer_made
   word_refused fault many same after is = rw (le-ltb n 65536 many) (λ i. (in_message (same i) (after i), Refused mask p (is i)))
-
-pub nonce_fits_true : (bytes : List ℕ) → NonceFits bytes → nonce_fits bytes ≡ true
-nonce_fits_true bytes fits = and_from _ _ (eq-eqb (length bytes % 2) 0 fits.0) (le-leb (length bytes) 32 fits.1)
-
-pub nonce_fits_false : (bytes : List ℕ) → (NonceFits bytes → ⊥) → nonce_fits bytes ≡ false
-nonce_fits_false bytes unfit =
-    elim (cases_Bool (nonce_fits bytes)) [
-      | inl yes' ↦
-          let parts = and_parts (eqb (length bytes % 2) 0) (leb (length bytes) 32) yes' in
-          absurd (unfit (eqb-true (length bytes % 2) 0 parts.0, leb-true (length bytes) 32 parts.1))
-      | inr no' ↦ no'
-    ]
 
 -- What a slice's type says of its bytes.
 pub bytes_fit : (bs : List ℕ) → ((i : ℕ) → get_or bs i 0 < 256) → Every (λ b. b < 256) bs

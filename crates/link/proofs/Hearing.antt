@@ -3,9 +3,9 @@ use Rattle.std.proofs.Common.{◌≡◌, ℕ, List, [], ◌∷◌, ◌++◌, map
 use Rattle.std.specs.List.{AllByRecursion as Every}
 use Rattle.std.proofs.lemmas.List.{map_push}
 use Rattle.std.proofs.lemmas.Bool.{cond_both}
-use Rattle.sss.specs.Cipher.{State, Word, OneToOne, begun, zeroed}
+use Rattle.sss.specs.Cipher.{State, Word, OneToOne, begun, zeroed, nonce_fits}
 use Rattle.sss.specs.declared.Fault.TheVariants.{Nonce}
-use Rattle.link.specs.Ends.{ReceiverState, nonce_fits, receiver_made, ReceiverCallFits}
+use Rattle.link.specs.Ends.{ReceiverState, receiver_made, ReceiverCallFits}
 use Rattle.link.specs.Log.{Mark, begin, break, finish, Heard, Stretch, heard_too, marked, stretch_noted, Since, heard_noted, heard_wire, start_of}
 use Rattle.link.specs.declared.call.ReceiverCall.{ReceiverCall}
 use Rattle.link.specs.declared.call.ReceiverCall.TheVariants.{Begin as Hear, Word as Take, Break, Finish as End}

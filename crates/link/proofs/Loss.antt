@@ -2,9 +2,9 @@
 use Rattle.std.proofs.Common.{◌≡◌, ◌↔◌, ℕ, ◌+◌, ltb, List, [], ◌∷◌, ◌++◌, map, Some, None, vec_items, Option, sym, refl, ap, ◌∙◌, subst}
 use Rattle.std.specs.List.{AllByRecursion as Every}
 use Rattle.std.proofs.lemmas.Bool.{cond_both}
-use Rattle.sss.specs.Cipher.{State, OneToOne, begun, plain_word, tag, taken, wire_word, drawn_from, sealed_message, opened_message, message_tag}
+use Rattle.sss.specs.Cipher.{State, OneToOne, begun, plain_word, tag, taken, wire_word, drawn_from, sealed_message, opened_message, message_tag, nonce_fits}
 use Rattle.link.specs.Receiving.{answer_of, decided, verdict_of}
-use Rattle.link.specs.Ends.{registers_of, SealerState, ready, in_message, ReceiverState, Ends, sealer_made, receiver_made, made, nonce_fits}
+use Rattle.link.specs.Ends.{registers_of, SealerState, ready, in_message, ReceiverState, Ends, sealer_made, receiver_made, made}
 use Rattle.link.specs.Log.{Sent, Message, messages, Mark, begin, Heard, Stretch, stretches, Since, sent_since, heard_since, plain_of, wire_of, heard_wire, start_of, sealer_registers, receiver_registers}
 use Rattle.link.specs.Law.{Law, Beginning, Judged, SeventeenSealed, Unbroken, Withholds, heard_wires, latest_17, sent_wires, wires}
 use Rattle.link.specs.declared.reception.Event.TheVariants as event

@@ -2,10 +2,10 @@
 use Rattle.std.proofs.Common.{◌≡◌, ℕ, zero, suc, ◌<◌, cond, List, [], ◌∷◌, ◌++◌, drop, get_or, vec_items, sym, refl, ap, ◌∙◌, arith}
 use lib.Bits.{bit_xor}
 use Rattle.std.specs.List.{AllByRecursion as Every}
-use Rattle.sss.specs.Cipher.{State, Word, Words, OneToOne, begun, check_step, ciphertext, keystream, mactext, nonce_taken, nonces_taken, open_zeros, plain_word, step, taken, words_of, zeroed}
+use Rattle.sss.specs.Cipher.{State, Word, Words, OneToOne, begun, check_step, ciphertext, keystream, mactext, nonce_taken, nonces_taken, open_zeros, plain_word, step, taken, words_of, zeroed, nonce_fits}
 use Rattle.sss.specs.declared.Fault.TheVariants.{Nonce}
 use Rattle.link.specs.Receiving.{answer_of, decided}
-use Rattle.link.specs.Ends.{Ends, ReceiverState, ReceiverCallFits, CallFits, made, nonce_fits, receiver_made}
+use Rattle.link.specs.Ends.{Ends, ReceiverState, ReceiverCallFits, CallFits, made, receiver_made}
 use Rattle.link.specs.Histories.{SameOnWords}
 use Rattle.link.specs.declared.call.Call.{Call}
 use Rattle.link.specs.declared.call.Call.TheVariants.{OnSealer, OnReceiver}

@@ -5,7 +5,8 @@ use Rattle.std.proofs.lemmas.List.{map_push}
 use Rattle.std.proofs.lemmas.Bool.{cond_both}
 use Rattle.sss.specs.Cipher.{State, Word, OneToOne, taken, wire_word, all_taken, wire_words}
 use Rattle.sss.specs.declared.Fault.TheVariants.{Full}
-use Rattle.link.specs.Issuing.{low_bytes, nonce_bytes}
+use Rattle.sss.specs.Bytes.{low_bytes}
+use Rattle.link.specs.Issuing.{nonce_bytes}
 use Rattle.link.specs.Ends.{SealerState, ready, in_message, sealer_made, SealerCallFits}
 use Rattle.link.specs.Log.{Sent, Message, sent_too, message_noted, Since, one_more, sent_noted, plain_of, wire_of, start_of}
 use Rattle.link.specs.declared.issuer.Nonce.{Nonce}

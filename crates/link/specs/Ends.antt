@@ -1,7 +1,7 @@
 -- The two ends of a link by what their calls leave: where each stands, and its registers.
-use Rattle.std.specs.Prelude.{◌≡◌, ℕ, ◌+◌, ◌%◌, ◌<◌, Bool, cond, ◌&&◌, List, [], ◌∷◌, ◌++◌, length, vec_items, fold, Option, Some, None, ◌==◌, nat_le, nat_lt}
+use Rattle.std.specs.Prelude.{◌≡◌, ℕ, ◌+◌, ◌<◌, cond, List, [], ◌∷◌, ◌++◌, vec_items, fold, Option, Some, None, nat_lt}
 use Rattle.std.specs.List.{AllByRecursion as Every}
-use Rattle.sss.specs.Cipher.{State, Word, begun, plain_word, tag, taken, wire_word, zeroed}
+use Rattle.sss.specs.Cipher.{State, Word, begun, nonce_fits, plain_word, tag, taken, wire_word, zeroed}
 use Rattle.sss.specs.declared.Fault.TheVariants.{Nonce as UnfitNonce, Full}
 use Rattle.link.specs.Issuing.{nonce_bytes}
 use Rattle.link.specs.Receiving.{decided, answer_of, verdict_of, Released, Given}
@@ -77,10 +77,6 @@ sealer_made f A (in_message n g) (on_sealer.Word mask p) =
     (in_message n g, sealer.Refused mask p Full)
 sealer_made f A (in_message n g) on_sealer.Finish = (ready zeroed, sealer.Finished (tag f g))
 sealer_made f A (in_message n g) on_sealer.Abandon = (ready zeroed, sealer.Abandoned)
-
--- Whether nonce bytes fit, as a test: an even number of them, at most 32.
-abbrev pub nonce_fits : List ℕ → Bool
-nonce_fits bytes = length bytes % 2 == 0 && nat_le (length bytes) 32
 
 -- What the receiver makes of a begin whose nonce fits, of a word, of a break and of a tag: where it then stands, and the answer if there is one.
 abbrev pub nonce_heard : (ℕ → ℕ) → (ℕ → ℕ) → List ℕ → ReceiverState

@@ -1,5 +1,6 @@
 -- Message numbers and nonces.
-use Rattle.std.specs.Prelude.{◌≡◌, ℕ, zero, suc, ◌+◌, ◌/◌, ◌%◌, ◌<◌, ◌≤◌, List, [], ◌∷◌, ◌++◌, Ok, Err, Result}
+use Rattle.std.specs.Prelude.{◌≡◌, ℕ, ◌+◌, ◌<◌, ◌≤◌, List, ◌++◌, Ok, Err, Result}
+use Rattle.sss.specs.Bytes.{low_bytes}
 use Rattle.sss.specs.declared.Fault.{Fault}
 use Rattle.sss.specs.declared.Fault.TheVariants.{Exhausted}
 use Rattle.link.specs.declared.issuer.Issuer.{Issuer}
@@ -11,11 +12,6 @@ abbrev pub Draws : Issuer → Result Nonce Fault → Issuer → Type 0
 Draws before (Ok n) after =
     (before.issued < 65536) × (n.run ≡ before.run) × (n.message ≡ before.issued) × (after.run ≡ before.run) × (after.issued ≡ before.issued + 1)
 Draws before (Err e) after = (65536 ≤ before.issued) × (e ≡ Exhausted) × (after ≡ before)
-
--- So many bytes of a number, the low ones first.
-abbrev pub low_bytes : ℕ → ℕ → List ℕ
-low_bytes zero x = []
-low_bytes (suc n) x = x % 256 ∷ low_bytes n (x / 256)
 
 -- A nonce's six bytes: the run number, then the message number.
 unfoldable pub nonce_bytes : Nonce → List ℕ

@@ -6,6 +6,7 @@ pub mod Receiving
 pub mod Hearing
 pub mod Noting
 pub mod Ends
+pub mod OneEnd
 pub mod Log
 pub mod Law
 pub mod Histories

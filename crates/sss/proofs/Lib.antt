@@ -1,4 +1,5 @@
 pub mod Words
+pub mod Bytes
 pub mod OneToOne
 pub mod Windows
 pub mod Asked

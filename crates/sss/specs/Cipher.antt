@@ -1,6 +1,6 @@
 -- SSS, the self-synchronizing stream cipher with a tag, as published. A word is a number below 65536, a register is a list of seventeen
 -- words, f is the keyed function and A the coefficient of the check register. The three printed tables are in Tables.
-use Rattle.std.specs.Prelude.{◌≡◌, ℕ, zero, suc, ◌+◌, ◌-◌, ◌*◌, ◌/◌, ◌%◌, ◌^◌, ◌<◌, ◌≤◌, cond, List, [], ◌∷◌, ◌++◌, map, reverse, length, drop, replicate, bit_and, bit_xor, nat_lt, slice_index, slice_set}
+use Rattle.std.specs.Prelude.{◌≡◌, ℕ, zero, suc, ◌+◌, ◌-◌, ◌*◌, ◌/◌, ◌%◌, ◌^◌, ◌<◌, ◌≤◌, cond, List, [], ◌∷◌, ◌++◌, map, reverse, length, drop, replicate, bit_and, bit_xor, nat_lt, slice_index, slice_set, Bool, ◌&&◌, ◌==◌, nat_le}
 use Rattle.std.specs.List.{range_with_len}
 use Rattle.sss.specs.Tables.{skipjack, qbox, products}
 use Rattle.sss.specs.declared.message.MaskedWord.{MaskedWord}
@@ -152,6 +152,10 @@ begun f A nonce = open_zeros f A 17 (nonces_taken f A zeroed (words_of nonce))
 -- A nonce has an even number of bytes, at most 32.
 abbrev pub NonceFits : List ℕ → Type 0
 NonceFits nonce = (length nonce % 2 ≡ 0) × (length nonce ≤ 32)
+
+-- The same as a test.
+abbrev pub nonce_fits : List ℕ → Bool
+nonce_fits nonce = length nonce % 2 == 0 && nat_le (length nonce) 32
 
 -- TO CLOSE a message the check register is left alone. Each word p steps the cipher register with p ⊕ v.
 unfoldable pub fed : (ℕ → ℕ) → List ℕ → ℕ → List ℕ

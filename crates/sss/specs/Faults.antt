@@ -1,7 +1,7 @@
 -- The number, the place and the layer of each refusal.
 use Rattle.std.specs.Prelude.{ℕ}
 use Rattle.sss.specs.declared.fault.Fault.{Fault}
-use Rattle.sss.specs.declared.fault.Fault.TheVariants.{Key, Table, Nonce, Exhausted, Full, UnknownCommand, CutOff, NoRoom, TooLong}
+use Rattle.sss.specs.declared.fault.Fault.TheVariants.{Key, Table, Nonce, Exhausted, Full, Input, Masks, Output, TagLength, TagDiffers, UnknownCommand, CutOff, NoRoom, TooLong}
 use Rattle.sss.specs.declared.fault.Layer.{Layer}
 use Rattle.sss.specs.declared.fault.Layer.TheVariants as layer
 
@@ -11,6 +11,11 @@ number_of Table = 2
 number_of Nonce = 3
 number_of Exhausted = 4
 number_of Full = 5
+number_of Input = 6
+number_of Masks = 7
+number_of Output = 8
+number_of TagLength = 9
+number_of TagDiffers = 10
 number_of (UnknownCommand place) = 11
 number_of (CutOff place) = 12
 number_of (NoRoom place) = 13
@@ -23,6 +28,11 @@ place_of Table = 0
 place_of Nonce = 0
 place_of Exhausted = 0
 place_of Full = 0
+place_of Input = 0
+place_of Masks = 0
+place_of Output = 0
+place_of TagLength = 0
+place_of TagDiffers = 0
 place_of (UnknownCommand place) = place
 place_of (CutOff place) = place
 place_of (NoRoom place) = place
@@ -34,6 +44,11 @@ layer_of Table = layer.Key
 layer_of Nonce = layer.Message
 layer_of Exhausted = layer.Message
 layer_of Full = layer.Message
+layer_of Input = layer.Message
+layer_of Masks = layer.Message
+layer_of Output = layer.Message
+layer_of TagLength = layer.Message
+layer_of TagDiffers = layer.Message
 layer_of (UnknownCommand place) = layer.Tape
 layer_of (CutOff place) = layer.Tape
 layer_of (NoRoom place) = layer.Tape

@@ -1,5 +1,6 @@
 pub mod Tables
 pub mod Cipher
+pub mod Bytes
 pub mod Kept
 pub mod Asked
 pub mod Outcomes

@@ -15,6 +15,16 @@ pub enum Fault {
     Exhausted,
     /// The message has 65,536 words already.
     Full,
+    /// The input of a whole message has an odd number of bytes, or more than 131,072.
+    Input,
+    /// The masks of a whole message are not as long as its input.
+    Masks,
+    /// The output of a whole message is shorter than its input.
+    Output,
+    /// The tag of a whole message, or the buffer for it, has not 16 bytes.
+    TagLength,
+    /// The tag that came with a whole message is not the one due, which is drawn from it as it came.
+    TagDiffers,
     /// The byte at this place of a tape is the byte of no command.
     UnknownCommand(usize),
     /// The tape ends within the command at this place.
@@ -48,6 +58,11 @@ impl Fault {
             Fault::Nonce => 3,
             Fault::Exhausted => 4,
             Fault::Full => 5,
+            Fault::Input => 6,
+            Fault::Masks => 7,
+            Fault::Output => 8,
+            Fault::TagLength => 9,
+            Fault::TagDiffers => 10,
             Fault::UnknownCommand(_) => 11,
             Fault::CutOff(_) => 12,
             Fault::NoRoom(_) => 13,
@@ -67,6 +82,11 @@ impl Fault {
             | Fault::Nonce
             | Fault::Exhausted
             | Fault::Full
+            | Fault::Input
+            | Fault::Masks
+            | Fault::Output
+            | Fault::TagLength
+            | Fault::TagDiffers
             | Fault::TooLong => 0,
         }
     }
@@ -77,7 +97,15 @@ impl Fault {
     {
         match self {
             Fault::Key | Fault::Table => Layer::Key,
-            Fault::Nonce | Fault::Exhausted | Fault::Full | Fault::TooLong => Layer::Message,
+            Fault::Nonce
+            | Fault::Exhausted
+            | Fault::Full
+            | Fault::Input
+            | Fault::Masks
+            | Fault::Output
+            | Fault::TagLength
+            | Fault::TagDiffers
+            | Fault::TooLong => Layer::Message,
             Fault::UnknownCommand(_) | Fault::CutOff(_) | Fault::NoRoom(_) => Layer::Tape,
         }
     }

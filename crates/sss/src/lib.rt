@@ -13,8 +13,9 @@ mod register;
 mod registers;
 
 pub use coefficient::Coefficient;
+pub use direction::{Direction, Opening, Sealing};
 pub use fault::{Fault, Layer};
 pub use keyed::KeyedFunction;
 pub use message::{MaskedWord, open_message, seal_message};
 pub use register::{Check, CheckRegister, Cipher, CipherRegister, Register};
-pub use registers::Registers;
+pub use registers::{Registers, refuse_unfit_nonce};

@@ -1,7 +1,7 @@
 //! A message's core: both registers, begun with a nonce, fed word by word, and closed with a tag.
-ghost use Rattle.std.specs.Prelude.{◌≡◌, reverse, bit_xor};
+ghost use Rattle.std.specs.Prelude.{◌≡◌, reverse, bit_xor, MatchResult};
 ghost use Rattle.sss.specs.Asked.{Asked};
-ghost use Rattle.sss.specs.Cipher.{begun, closed, plain_word, tag, taken, wire_word, words_of, zeroed};
+ghost use Rattle.sss.specs.Cipher.{NonceFits, begun, closed, plain_word, tag, taken, wire_word, words_of, zeroed};
 ghost use Rattle.sss.specs.Cipher.{all_fed, check_step, mactext, nonce_taken, nonces_taken, open_zeros, step};
 ghost use Rattle.sss.specs.Laws.{MactextFromWire, WordBack};
 ghost use Rattle.sss.specs.Outcomes.{TakesNonce};
@@ -25,6 +25,16 @@ impl Model for Registers {
     ghost Value = { State };
 
     ghost view = { λ s. record { r = s.cipher; c = s.check } };
+}
+
+/// Refuses a nonce of an odd number of bytes or of more than 32.
+pub fn refuse_unfit_nonce(nonce: &[u8]) -> Result<(), Fault>
+    ensures { MatchResult result (λ _. NonceFits nonce.now) (λ fault. (NonceFits nonce.now → ⊥) × (fault ≡ Fault.Nonce)) }
+{
+    if nonce.len() % 2 != 0 || nonce.len() > 32 {
+        return Err(Fault::Nonce);
+    }
+    Ok(())
 }
 
 // The keyed function and the coefficient come to each call as two references. In one struct of references (tried) the proof no longer knew the
@@ -73,9 +83,7 @@ impl Registers {
     ) -> Result<(), Fault>
         ensures { TakesNonce nonce.now (λ _. Asked K.KeyedFunction f.old f.new (λ g. self.new ≡ begun g (C.image a.now) nonce.now)) ((self.new ≡ self.old) × (f.new ≡ f.old)) result }
     {
-        if nonce.len() % 2 != 0 || nonce.len() > 32 {
-            return Err(Fault::Nonce);
-        }
+        refuse_unfit_nonce(nonce)?;
         self.reset();
         self.take_nonce(f, a, nonce);
         self.take_open_zeros(f, a);

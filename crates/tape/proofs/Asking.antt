@@ -3,7 +3,7 @@ use Rattle.std.proofs.Common.{◌≡◌, ℕ, zero, suc, ◌+◌, ◌<◌, inl, 
 use Rattle.std.proofs.lemmas.List.{get_or-drop, length-drop}
 use Rattle.tape.specs.Format.{Ending, Ends, OneReading, Reads, at_end, bytes_of, cut_off, fault_of, places_from, tape_of, unknown}
 use Rattle.tape.specs.Items.{command_of, part_of, place_of}
-use Rattle.tape.specs.Octets.{Octets}
+use Rattle.sss.specs.Bytes.{Octets}
 use Rattle.tape.specs.Reading.{Answers, ReadsNext, ReadsTape, left, no_item}
 use Rattle.tape.specs.declared.item.Item.{Item}
 use Rattle.tape.specs.declared.reader.Reader.{Reader}

@@ -2,7 +2,8 @@
 use Rattle.std.proofs.Common.{◌≡◌, ℕ, ◌+◌, ◌<◌, List, [], ◌∷◌, ◌++◌, length, get_or, replicate, take, drop, cond, ◌==◌, Some, refl, sym, ap, ◌∙◌, arith, take-append-drop}
 use Rattle.sss.specs.declared.Fault.{Fault}
 use Rattle.sss.specs.declared.Fault.TheVariants.{CutOff}
-use Rattle.tape.specs.Format.{Ending, Ends, Fits, bytes_of, bytes_of_words, cut_off, fault_of}
+use Rattle.sss.specs.Bytes.{bytes_of_words}
+use Rattle.tape.specs.Format.{Ending, Ends, Fits, bytes_of, cut_off, fault_of}
 use Rattle.tape.specs.Items.{IsNext, part_of, place_of}
 use Rattle.tape.specs.declared.command.Command.{Command}
 use Rattle.tape.specs.declared.command.Command.TheVariants.{Nonce, Sealed, Open, Part, Break, Tag}

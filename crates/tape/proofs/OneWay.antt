@@ -6,7 +6,7 @@ use Rattle.std.specs.List.{AllByRecursion as Every}
 use Rattle.sss.specs.Cipher.{words_of}
 use Rattle.tape.specs.Format.{Ending, Ends, Fits, IsCommandByte, Reads, at_end, bytes_of, cut_off, tape_of, unknown}
 use Rattle.tape.specs.Items.{IsNext, part_of, place_of}
-use Rattle.tape.specs.Octets.{Octets}
+use Rattle.sss.specs.Bytes.{Octets}
 use Rattle.tape.specs.declared.command.Command.{Command}
 use Rattle.tape.specs.declared.command.Command.TheVariants.{Nonce, Sealed, Open, Part, Break, Tag}
 use Rattle.tape.specs.declared.item.Item.{Item}
@@ -14,7 +14,7 @@ use Rattle.tape.specs.declared.item.Item.TheVariants as item
 use Rattle.tape.specs.declared.item.WordItem.TheVariants as word
 use Rattle.tape.specs.declared.piece.Piece.{Piece}
 use Rattle.tape.proofs.Finding.{first_byte, found, sample, size, sized}
-use Rattle.tape.proofs.Operands.{reread}
+use Rattle.sss.proofs.Bytes.{reread}
 use Rattle.tape.proofs.Spelled.{fits}
 
 -- The byte of a command.

@@ -1,13 +1,14 @@
 -- An item's part of the tape is the bytes of the command that it is.
 use Rattle.std.proofs.Common.{◌≡◌, ℕ, suc, ◌-◌, ◌/◌, ◌%◌, ◌<◌, List, [], ◌∷◌, length, get_or, drop, refl, sym, ap, ◌∙◌, arith}
 use Rattle.sss.specs.Cipher.{Word as IsWord}
-use Rattle.tape.specs.Format.{Fits, bytes_of, bytes_of_words}
+use Rattle.sss.specs.Bytes.{bytes_of_words}
+use Rattle.tape.specs.Format.{Fits, bytes_of}
 use Rattle.tape.specs.Items.{command_of, operands, part_of}
 use Rattle.tape.specs.declared.item.Item.{Item}
 use Rattle.tape.specs.declared.item.Item.TheVariants.{Nonce, Word, Break, Tag}
 use Rattle.tape.specs.declared.item.WordItem.TheVariants.{Sealed, Open, Part}
-use Rattle.tape.specs.Octets.{Octets}
-use Rattle.tape.proofs.Operands.{all_words, length-words_of, respelled, words_read}
+use Rattle.sss.specs.Bytes.{Octets}
+use Rattle.sss.proofs.Bytes.{all_words, length-words_of, respelled, words_read}
 use Rattle.std.proofs.lemmas.List.{length-drop}
 use Rattle.link.proofs.Every.{every_place}
 

@@ -9,10 +9,11 @@ use Rattle.link.specs.declared.call.Call.TheVariants.{OnSealer, OnReceiver}
 use Rattle.link.specs.declared.call.Entry.{Entry}
 use Rattle.link.specs.declared.call.ReceiverCall.{ReceiverCall}
 use Rattle.link.specs.declared.call.ReceiverEntry.{ReceiverEntry}
-use Rattle.link.proofs.Calls.{nonce_fits_true}
+use Rattle.sss.proofs.Refusals.{nonce_fits_true}
 use Rattle.tape.specs.Format.{Fits, bytes_of, places_from}
 use Rattle.tape.specs.Replaying.{TapeLines, heard_line, heard_lines}
-use Rattle.tape.specs.Runs.{ToldByRuns, IsCall, entry_line, entry_lines, receiver_call, receiver_entry}
+use Rattle.link.specs.OneEnd.{receiver_call, receiver_entry}
+use Rattle.tape.specs.Runs.{ToldByRuns, IsCall, entry_line, entry_lines}
 use Rattle.tape.specs.declared.command.Command.{Command}
 use Rattle.tape.specs.declared.command.Command.TheVariants.{Nonce}
 use Rattle.tape.specs.declared.line.Line.{Line}

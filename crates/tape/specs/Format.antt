@@ -1,16 +1,12 @@
 -- The format of a tape: commands of one byte with operands of fixed width.
 use Rattle.std.specs.Prelude.{◌≡◌, ℕ, ◌<◌, ◌+◌, List, [], ◌∷◌, ◌++◌, length, slice_index, Option, None, Some}
 use Rattle.std.specs.List.{flat_map, AllByRecursion as Every}
+use Rattle.sss.specs.Bytes.{bytes_of_words}
 use Rattle.sss.specs.Cipher.{Word}
 use Rattle.sss.specs.declared.Fault.{Fault}
 use Rattle.sss.specs.declared.Fault.TheVariants.{UnknownCommand, CutOff}
-use Rattle.link.specs.Issuing.{low_bytes}
 use Rattle.tape.specs.declared.command.Command.{Command}
 use Rattle.tape.specs.declared.command.Command.TheVariants.{Nonce, Sealed, Open, Part, Break, Tag}
-
--- The bytes of words: two a word, the low one first.
-abbrev pub bytes_of_words : List ℕ → List ℕ
-bytes_of_words words = flat_map (low_bytes 2) words
 
 -- The bytes of a command: its command byte and its operands.
 abbrev pub bytes_of : Command → List ℕ

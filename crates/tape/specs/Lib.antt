@@ -1,4 +1,3 @@
-pub mod Octets
 pub mod Format
 pub mod Items
 pub mod Reading

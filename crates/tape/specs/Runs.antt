@@ -1,12 +1,10 @@
 -- What the runs of a link say of a tape.
-use Rattle.std.specs.Prelude.{◌≡◌, ℕ, List, [], ◌∷◌, ◌++◌, length, map, zip, filter_map, vec_items, Vec, Option, Some, None}
+use Rattle.std.specs.Prelude.{◌≡◌, ℕ, List, [], ◌∷◌, ◌++◌, length, map, zip, filter_map, vec_items, Vec}
 use Rattle.std.specs.List.{AllZip}
 use Rattle.std.specs.declared.alloc.Global.{Global}
 use Rattle.link.specs.Ends.{history}
+use Rattle.link.specs.OneEnd.{receiver_call, receiver_entry}
 use Rattle.link.specs.declared.call.Call.{Call}
-use Rattle.link.specs.declared.call.Call.TheVariants.{OnSealer, OnReceiver}
-use Rattle.link.specs.declared.call.Entry.{Entry}
-use Rattle.link.specs.declared.call.Entry.TheVariants.{OfSealer, OfReceiver}
 use Rattle.link.specs.declared.call.ReceiverCall.{ReceiverCall}
 use Rattle.link.specs.declared.call.ReceiverCall.TheVariants as call
 use Rattle.link.specs.declared.call.ReceiverEntry.{ReceiverEntry}
@@ -17,16 +15,6 @@ use Rattle.tape.specs.declared.command.Command.{Command}
 use Rattle.tape.specs.declared.command.Command.TheVariants.{Nonce, Sealed, Open, Part, Break, Tag}
 use Rattle.tape.specs.declared.line.Line.{Line}
 use Rattle.tape.specs.declared.line.Line.TheVariants as line
-
--- The call, where it is one on the receiver.
-abbrev pub receiver_call : Call → Option ReceiverCall
-receiver_call (OnSealer x) = None
-receiver_call (OnReceiver x) = Some x
-
--- The entry, where it is one of the receiver.
-abbrev pub receiver_entry : Entry → Option ReceiverEntry
-receiver_entry (OfSealer e) = None
-receiver_entry (OfReceiver e) = Some e
 
 -- The call that takes a command.
 abbrev pub IsCall : Command → ReceiverCall → Type 0

@@ -2,7 +2,8 @@
 ghost use Rattle.std.specs.Prelude.{◌≡◌, ◌≤◌, ◌∷◌, length};
 ghost use Rattle.std.specs.List.{AllByRecursion as Every};
 ghost use Rattle.sss.specs.Cipher.{Word};
-ghost use Rattle.tape.specs.Format.{Fits, bytes_of, bytes_of_words};
+ghost use Rattle.sss.specs.Bytes.{bytes_of_words};
+ghost use Rattle.tape.specs.Format.{Fits, bytes_of};
 
 use arrayvec::ArrayVec;
 

@@ -1,7 +1,7 @@
 //! The parts of a tape that commands are read from.
 ghost use Rattle.std.specs.Prelude.{◌≡◌, ◌<◌, ◌+◌, ◌*◌, slice_index, MatchResult, length, take, drop};
 ghost use Rattle.sss.specs.Cipher.{words_of};
-ghost use Rattle.tape.specs.Octets.{Octets};
+ghost use Rattle.sss.specs.Bytes.{Octets};
 
 use crate::command::{BREAK, NONCE, OPEN, PART, SEALED, TAG};
 use sss::Fault;

@@ -153,7 +153,10 @@ fn refused(fault: &Fault) -> &'static str {
         Fault::Nonce => "the nonce",
         Fault::Exhausted | Fault::Full => "the message",
         Fault::UnknownCommand(_) | Fault::CutOff(_) | Fault::NoRoom(_) => "the tape",
-        Fault::TooLong => "the input",
+        Fault::Input | Fault::TooLong => "the input",
+        Fault::Masks => "the masks",
+        Fault::Output => "the output",
+        Fault::TagLength | Fault::TagDiffers => "the tag",
     }
 }
 

@@ -1,5 +1,5 @@
 use Rattle.std.proofs.Common.{◌≡◌, ◌+◌, ◌*◌, ◌∷◌, length, take}
-use Rattle.tape.specs.Format.{bytes_of_words}
+use Rattle.sss.specs.Bytes.{bytes_of_words}
 use Rattle.tape.proofs.command.with_words.Given as goal
 
 -- The bytes of the operands so far stand behind the command byte, two for each.

@@ -2,7 +2,7 @@ use Rattle.std.proofs.Common.{vec_items, sym, ap, ◌∙◌, subst}
 use Rattle.sss.specs.Cipher.{NonceFits, begun}
 use Rattle.link.specs.Ends.{receiver_made}
 use Rattle.link.specs.declared.call.ReceiverEntry.TheVariants.{Begun, Refused, Received, BrokenOff, Finished}
-use Rattle.link.proofs.Calls.{nonce_fits_true, nonce_fits_false}
+use Rattle.sss.proofs.Refusals.{nonce_fits_true, nonce_fits_false}
 use Rattle.link.proofs.Engines.{not_worked, worked_so}
 use Rattle.link.proofs.receiver.Receiver.take.Goals as goal
 
