@@ -1,0 +1,4 @@
+pub mod Buffers
+pub mod Checks
+pub mod Outcomes
+pub mod Laws
