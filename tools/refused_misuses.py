@@ -1,7 +1,7 @@
 #!/usr/bin/env python3
 """Sees that the compiler refuses each misuse of crates/*/misuse: a nonce that
-is used twice, in a list of calls or for a second message of one sealer, a word
-after the tag, a word before a message is open.
+is used twice, in a list of calls, for a second message of one sealer or for two
+whole messages, a word after the tag, a word before a message is open.
 
 A misuse has the form of a must-fail edit (`file:`, `old:`, `new:`), but it is
 refused for a variable that was moved or a method that is not there, before
@@ -27,7 +27,7 @@ def replacement(edit):
 
 def compiled(where, crate):
     """What the compiler says of a program, and whether it runs."""
-    run = subprocess.run(["rt", "try", crate], cwd=where / "crates" / crate, capture_output=True, text=True)
+    run = subprocess.run(["rt", "try", crate], cwd=where / "crates" / crate, stdin=subprocess.DEVNULL, capture_output=True, text=True)
     return run.stdout + run.stderr, run.returncode == 0
 
 

@@ -1,0 +1,5 @@
+pub mod Placed
+pub mod Buffers
+pub mod SixBytes
+pub mod Folded
+pub mod Printed

@@ -1,0 +1,95 @@
+//! The calls that requests ask for, made in buffers of known bytes.
+ghost use Rattle.std.specs.Prelude.{◌≡◌, IfOk, MatchResult};
+ghost use Rattle.link.specs.Issuing.{nonce_bytes};
+ghost use Rattle.sss.specs.Cipher.{KeyFits, Lawful, key_table};
+ghost use Rattle.sss.specs.declared.fault.Fault.TheVariants.{Key};
+ghost use Rattle.requests.specs.Replies.{SealReply, OpenReply};
+
+use crate::reply::Reply;
+use crate::request::{OpenRequest, SealRequest};
+use functions::{FilledTable, PrintedTable};
+use link::{Issuer, Nonce};
+use sss::Fault;
+use std::alloc::{AllocError, Global};
+
+/// What the output's buffer holds before a call.
+const OUTPUT: u8 = 0xA5;
+
+/// What the tag's buffer holds before a call.
+const TAG: u8 = 0x5A;
+
+/// The keyed function of a key.
+fn loaded(key: &[u8]) -> Result<FilledTable, Fault>
+    ensures { MatchResult result (λ f. KeyFits key.now × (f.entries ≡ key_table key.now) × Lawful f.entries) (λ e. (KeyFits key.now → ⊥) × (e ≡ Key)) }
+{
+    let mut function = FilledTable::new();
+    function.load(key)?;
+    Ok(function)
+}
+
+/// The nonce of a message, by its run number and its message number.
+fn drawn(run: u32, message: u16) -> Nonce
+    ensures run { result.run ≡ run }
+    ensures message { result.message ≡ message }
+{
+    let mut issuer = Issuer::new(run);
+    for _earlier in 0..message {
+        let _ = issuer.draw();
+    }
+    issuer.draw().unwrap()
+}
+
+/// The nonce whose six bytes are these.
+fn nonce(bytes: &[u8; 6]) -> Nonce
+    ensures { nonce_bytes result ≡ bytes.now }
+{
+    let [a, b, c, d, e, f] = *bytes;
+    drawn(u32::from_le_bytes([a, b, c, d]), u16::from_le_bytes([e, f]))
+}
+
+/// Seals the message of a request. Nothing but want of memory keeps it from a reply.
+pub(crate) fn seal(heap: Global, request: &SealRequest) -> Result<Reply, AllocError>
+    ensures { IfOk result (SealReply request.now) }
+{
+    let mut function = match loaded(&request.key) {
+        Ok(function) => function,
+        Err(fault) => return Ok(Reply::NoKey(fault)),
+    };
+    let mut output = vec![in heap; OUTPUT; request.room]?;
+    let mut tag = vec![in heap; TAG; request.tag_room]?;
+    let answer = message::seal(
+        &mut function,
+        &PrintedTable,
+        nonce(&request.nonce),
+        &request.masks,
+        &request.plaintext,
+        &mut output,
+        &mut tag,
+    );
+    Ok(Reply::Sealing {
+        answer,
+        output,
+        tag,
+    })
+}
+
+/// Opens the message of a request. Nothing but want of memory keeps it from a reply.
+pub(crate) fn open(heap: Global, request: &OpenRequest) -> Result<Reply, AllocError>
+    ensures { IfOk result (OpenReply request.now) }
+{
+    let mut function = match loaded(&request.key) {
+        Ok(function) => function,
+        Err(fault) => return Ok(Reply::NoKey(fault)),
+    };
+    let mut output = vec![in heap; OUTPUT; request.room]?;
+    let answer = message::open(
+        &mut function,
+        &PrintedTable,
+        &request.nonce,
+        &request.masks,
+        &request.wire,
+        &mut output,
+        &request.tag,
+    );
+    Ok(Reply::Opening { answer, output })
+}

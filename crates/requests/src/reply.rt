@@ -1,0 +1,86 @@
+//! What came of a request, and the line that says so.
+ghost use Rattle.std.specs.Prelude.{Some};
+ghost use Rattle.link.specs.Receiving.{hex_of_byte};
+ghost use Rattle.requests.specs.Texts.{hex_text, reply_text};
+
+use sss::Fault;
+use std::fmt;
+
+/// What a call answered, and its buffers as they are afterwards.
+#[derive(Drop)]
+pub enum Reply {
+    /// The key does not load: no call was made.
+    NoKey(Fault),
+    /// A message was to be sealed.
+    Sealing {
+        answer: Result<(), Fault>,
+        output: Vec<u8>,
+        tag: Vec<u8>,
+    },
+    /// A message was to be opened.
+    Opening {
+        answer: Result<(), Fault>,
+        output: Vec<u8>,
+    },
+}
+
+impl fmt::Display for Reply {
+    ghost output = { λ reply. Some (reply_text reply) };
+
+    fn fmt<W: fmt::Write>(&self, f: &mut fmt::Formatter<W>) -> fmt::Result {
+        match self {
+            Reply::NoKey(fault) => write!(f, "refused {}", fault.number()),
+            Reply::Sealing {
+                answer,
+                output,
+                tag,
+            } => {
+                let output = Hex(output);
+                let tag = Hex(tag);
+                match answer {
+                    Ok(()) => write!(f, "sealed {output} {tag}"),
+                    Err(fault) => write!(f, "refused {} {output} {tag}", fault.number()),
+                }
+            }
+            Reply::Opening { answer, output } => {
+                let output = Hex(output);
+                match answer {
+                    Ok(()) => write!(f, "opened {output}"),
+                    Err(fault) => write!(f, "refused {} {output}", fault.number()),
+                }
+            }
+        }
+    }
+}
+
+/// A byte to print in two hex digits.
+#[derive(Clone, Copy)]
+struct HexByte(u8);
+
+impl fmt::Display for HexByte {
+    ghost output = { λ byte. Some (hex_of_byte byte.0) };
+
+    #[tactic(auto, using(std::proofs::lemmas::Fmt::hex_byte))]
+    fn fmt<W: fmt::Write>(&self, f: &mut fmt::Formatter<W>) -> fmt::Result {
+        let byte = self.0;
+        write!(f, "{byte:02x}")
+    }
+}
+
+/// Bytes to print in hex, `-` for none.
+#[derive(Clone, Copy)]
+struct Hex<'a>(&'a [u8]);
+
+impl fmt::Display for Hex<'_> {
+    ghost output = { λ hex. Some (hex_text hex.0.now) };
+
+    fn fmt<W: fmt::Write>(&self, f: &mut fmt::Formatter<W>) -> fmt::Result {
+        if self.0.is_empty() {
+            return write!(f, "-");
+        }
+        for byte in self.0 {
+            write!(f, "{}", HexByte(*byte))?;
+        }
+        Ok(())
+    }
+}

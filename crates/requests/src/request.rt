@@ -1,0 +1,183 @@
+//! A line of the input as a request.
+ghost use Rattle.std.specs.Prelude.{◌≡◌, ◌+◌, map, Some, IfOk, MatchResult, vec_len};
+ghost use Rattle.std.specs.List.{join_with_byte};
+ghost use Rattle.requests.specs.Lines.{placed, blanks, texts_of, Cut, NotCut, ReadsSealing, NoSealing, ReadsOpening, NoOpening, Reads, NotRead, Parses, NotParsed};
+ghost use Rattle.requests.specs.Texts.{unread_text};
+ghost use Rattle.requests.specs.declared.request.Unread.TheVariants.{NoMemory};
+
+use crate::field;
+use crate::field::{Field, Flaw};
+use std::alloc::{AllocError, Global};
+use std::fmt;
+
+/// Why a line is not carried out.
+#[derive(Clone, Copy, Debug)]
+pub enum Unread {
+    /// The line is not UTF-8.
+    NotText,
+    /// The line has this many parts, which is not seven.
+    Parts(usize),
+    /// The first part is another word.
+    OtherCall,
+    /// One field is at fault.
+    InField(Field, Flaw),
+    /// There was no memory to read the line, or for the buffers of its call.
+    NoMemory,
+}
+
+impl fmt::Display for Unread {
+    ghost output = { λ why. Some (unread_text why) };
+
+    fn fmt<W: fmt::Write>(&self, f: &mut fmt::Formatter<W>) -> fmt::Result {
+        match self {
+            Unread::NotText => write!(f, "not text"),
+            Unread::Parts(parts) => write!(f, "7 parts are wanted, and it has {parts}"),
+            Unread::OtherCall => write!(f, "neither seal nor open"),
+            Unread::InField(field, flaw) => write!(f, "field {field}: {flaw}"),
+            Unread::NoMemory => write!(f, "no memory for it"),
+        }
+    }
+}
+
+impl From<AllocError> for Unread {
+    ghost from_gives = { λ _ r. r ≡ NoMemory };
+
+    fn from(_e: AllocError) -> Unread {
+        Unread::NoMemory
+    }
+}
+
+/// The texts of a line's seven parts: the call, and its fields in their order.
+#[derive(Clone, Copy)]
+pub struct Parts<'a> {
+    pub call: &'a str,
+    pub key: &'a str,
+    pub nonce: &'a str,
+    pub masks: &'a str,
+    /// The plaintext of `seal`, the wire words of `open`.
+    pub input: &'a str,
+    /// The room of `seal`, the tag of `open`.
+    pub sixth: &'a str,
+    /// The tag's room of `seal`, the room of `open`.
+    pub seventh: &'a str,
+}
+
+/// The pieces of a line between its blanks.
+fn pieces<'a>(heap: Global, line: &'a str) -> Result<Vec<&'a str>, AllocError>
+    ensures joined { IfOk result (λ v. line.now ≡ join_with_byte 32 (map (λ x. x.now) v.items)) }
+    ensures count { IfOk result (λ v. vec_len v ≡ blanks line.now + 1) }
+{
+    line.split(' ').collect(heap)
+}
+
+impl<'a> Parts<'a> {
+    /// Cuts a line at each blank.
+    fn cut(heap: Global, line: &'a str) -> Result<Parts<'a>, Unread>
+        ensures { MatchResult result (λ p. Cut line.now (texts_of p)) (NotCut line.now) }
+    {
+        let texts = pieces(heap, line)?;
+        let [call, key, nonce, masks, input, sixth, seventh] = *texts.as_slice() else {
+            return Err(Unread::Parts(texts.len()));
+        };
+        Ok(Parts {
+            call,
+            key,
+            nonce,
+            masks,
+            input,
+            sixth,
+            seventh,
+        })
+    }
+}
+
+/// A field's fault as the line's.
+fn in_field<T>(field: Field, read: Result<T, Flaw>) -> Result<T, Unread>
+    ensures { result ≡ placed field read }
+{
+    read.map_err(|flaw| Unread::InField(field, flaw))
+}
+
+/// A message to be sealed, and the lengths of the buffers for it.
+#[derive(Drop)]
+pub struct SealRequest {
+    pub key: Vec<u8>,
+    pub nonce: [u8; 6],
+    pub masks: Vec<u8>,
+    pub plaintext: Vec<u8>,
+    pub room: usize,
+    pub tag_room: usize,
+}
+
+impl SealRequest {
+    /// Reads the fields of `seal`.
+    fn read(heap: Global, parts: Parts<'_>) -> Result<SealRequest, Unread>
+        ensures { MatchResult result (ReadsSealing (texts_of parts.entry)) (NoSealing (texts_of parts.entry)) }
+    {
+        Ok(SealRequest {
+            key: in_field(Field::Key, field::bytes(heap, parts.key))?,
+            nonce: in_field(Field::Nonce, field::nonce(parts.nonce))?,
+            masks: in_field(Field::Masks, field::bytes(heap, parts.masks))?,
+            plaintext: in_field(Field::Plaintext, field::bytes(heap, parts.input))?,
+            room: in_field(Field::Room, field::length(parts.sixth))?,
+            tag_room: in_field(Field::TagRoom, field::length(parts.seventh))?,
+        })
+    }
+}
+
+/// A message to be opened, and the length of the buffer for it.
+#[derive(Drop)]
+pub struct OpenRequest {
+    pub key: Vec<u8>,
+    pub nonce: Vec<u8>,
+    pub masks: Vec<u8>,
+    pub wire: Vec<u8>,
+    pub tag: Vec<u8>,
+    pub room: usize,
+}
+
+impl OpenRequest {
+    /// Reads the fields of `open`.
+    fn read(heap: Global, parts: Parts<'_>) -> Result<OpenRequest, Unread>
+        ensures { MatchResult result (ReadsOpening (texts_of parts.entry)) (NoOpening (texts_of parts.entry)) }
+    {
+        Ok(OpenRequest {
+            key: in_field(Field::Key, field::bytes(heap, parts.key))?,
+            nonce: in_field(Field::Nonce, field::bytes(heap, parts.nonce))?,
+            masks: in_field(Field::Masks, field::bytes(heap, parts.masks))?,
+            wire: in_field(Field::Wire, field::bytes(heap, parts.input))?,
+            tag: in_field(Field::Tag, field::bytes(heap, parts.sixth))?,
+            room: in_field(Field::Room, field::length(parts.seventh))?,
+        })
+    }
+}
+
+/// A call that a line asks for.
+#[derive(Drop)]
+pub enum Request {
+    Seal(SealRequest),
+    Open(OpenRequest),
+}
+
+impl Request {
+    /// Reads the parts of a line.
+    fn read(heap: Global, parts: Parts<'_>) -> Result<Request, Unread>
+        ensures { MatchResult result (Reads (texts_of parts.entry)) (NotRead (texts_of parts.entry)) }
+    {
+        match parts.call {
+            "seal" => Ok(Request::Seal(SealRequest::read(heap, parts)?)),
+            "open" => Ok(Request::Open(OpenRequest::read(heap, parts)?)),
+            _ => Err(Unread::OtherCall),
+        }
+    }
+
+    /// Reads a line.
+    pub(crate) fn parse(heap: Global, line: &[u8]) -> Result<Request, Unread>
+        ensures { MatchResult result (Parses line.now) (NotParsed line.now) }
+    {
+        let Ok(text) = std::str::from_utf8(line) else {
+            return Err(Unread::NotText);
+        };
+        Request::read(heap, Parts::cut(heap, text)?)
+    }
+}
