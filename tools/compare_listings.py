@@ -298,14 +298,19 @@ def _(rng):
     return first.bytes() + second.bytes()[rng.choice([0, len(second.key)]):]
 
 
+def one_bit_turned(rng, command, size):
+    """A good tape, with one bit of the operands of such a command another."""
+    tape = good(rng, (command,))
+    at = tape.some(rng, (command,))
+    altered = bytearray(tape.commands[at])
+    altered[rng.randint(1, size)] ^= 1 << rng.randrange(8)
+    tape.commands[at] = bytes(altered)
+    return tape.bytes()
+
+
 @kind("damage: a tag altered", 2)
 def _(rng):
-    tape = good(rng, (TAG,))
-    at = tape.some(rng, (TAG,))
-    tag = bytearray(tape.commands[at])
-    tag[rng.randint(1, 16)] ^= 1 << rng.randrange(8)
-    tape.commands[at] = bytes(tag)
-    return tape.bytes()
+    return one_bit_turned(rng, TAG, 16)
 
 
 @kind("damage: a word altered", 2)
@@ -329,12 +334,7 @@ def _(rng):
 
 @kind("damage: a nonce altered", 1)
 def _(rng):
-    tape = good(rng, (NONCE,))
-    at = tape.some(rng, (NONCE,))
-    nonce = bytearray(tape.commands[at])
-    nonce[rng.randint(1, 6)] ^= 1 << rng.randrange(8)
-    tape.commands[at] = bytes(nonce)
-    return tape.bytes()
+    return one_bit_turned(rng, NONCE, 6)
 
 
 @kind("damage: the key altered", 1)
