@@ -1,7 +1,8 @@
 -- Two registers as one state.
-use Rattle.std.proofs.Common.{◌≡◌, List, ℕ, refl, sym, subst}
-use lib.Bits.{bit_and, bit_xor}
-use Rattle.sss.specs.Cipher.{State, step, check_step, keystream, mactext, masked, ciphertext, taken, plain_word}
+use Rattle.std.proofs.Common.{◌≡◌, List, ℕ, refl, sym, ap, ◌∙◌, subst, arith}
+use lib.Bits.{bit_and, bit_xor, and_comm, and_mask, and_zero_l, xor_zero_r}
+use Rattle.sss.specs.Cipher.{Word, State, step, check_step, keystream, mactext, masked, ciphertext, complement, taken, plain_word}
+use Rattle.sss.proofs.Words.{xor_undo}
 
 pub same_state : {r r' c c' : List ℕ} → r ≡ r' → c ≡ c' → Path State (record { r = r; c = c }) (record { r = r'; c = c' })
 same_state p q = λ j. record { r = p j; c = q j }
@@ -19,3 +20,20 @@ opened_with f A g mask wire v e =
     (p ≡ plain_word f g mask wire) ×
     Path State (record { r = step f g.r (bit_xor p v); c = check_step A g.c (mactext mask v p) }) (taken f A g mask (plain_word f g mask wire)))
     (sym e) (refl, refl)
+
+-- A mask of all bits leaves a word as it is.
+pub and_all : (v : ℕ) → Word v → bit_and 65535 v ≡ v
+and_all v h = and_comm 65535 v ∙ and_mask v 16 ∙ omega arith
+
+-- The same of a sealed word: the cipher register steps with the wire word, the check register with the plaintext word.
+pub opened_sealed : (f A : ℕ → ℕ) (g : State) (wire v : ℕ) → Word v → v ≡ keystream f g.r →
+    (bit_xor wire v ≡ plain_word f g 65535 wire) ×
+    Path State (record { r = step f g.r wire; c = check_step A g.c (bit_xor wire v) }) (taken f A g 65535 (plain_word f g 65535 wire))
+unfolding mactext complement
+opened_sealed f A g wire v h e =
+    let p : ℕ = bit_xor wire (bit_and 65535 v) in
+    let plain : bit_xor wire v ≡ p = ap (bit_xor wire) (sym (and_all v h)) in
+    let stepped : wire ≡ bit_xor p v = sym (xor_undo wire v) ∙ ap (λ (x : ℕ). bit_xor x v) plain in
+    let checked : bit_xor wire v ≡ mactext 65535 v p = plain ∙ sym (ap (bit_xor p) (and_zero_l v) ∙ xor_zero_r p) in
+    let opened = opened_with f A g 65535 wire v e in
+    (plain ∙ opened.0, same_state (ap (step f g.r) stepped) (ap (check_step A g.c) checked) ∙ opened.1)

@@ -28,12 +28,13 @@ impl CipherRegister {
         ensures { Asked K.KeyedFunction f.old f.new (λ g. result ≡ keystream g self.now) }
     {
         let oldest = self.at(0);
-        let inner = f.apply(oldest.wrapping_add(self.at(16)));
-        let sum = inner
-            .wrapping_add(self.at(1))
+        // The words that are long there are added first: the newest one is what a next word waits for.
+        let older = self
+            .at(1)
             .wrapping_add(self.at(6))
             .wrapping_add(self.at(13));
-        f.apply(sum).rotate_right(8) ^ oldest
+        let inner = f.apply(oldest.wrapping_add(self.at(16)));
+        f.apply(inner.wrapping_add(older)).rotate_right(8) ^ oldest
     }
 
     /// Feeds in the word that `p` is sealed to, `p ⊕ v`, and answers it.

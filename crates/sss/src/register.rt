@@ -19,22 +19,24 @@ pub type CheckRegister = Register<Check>;
 
 /// Seventeen words, the oldest first, in the role `R`.
 ///
-/// They are a window on a longer buffer, so that a shift moves the window and not the words. At the buffer's end the window is copied to its
-/// front.
+/// The newest is kept apart, where the next step finds it at once. The sixteen older ones are a window on a longer buffer, so that a shift moves the
+/// window and not the words. At the buffer's end the window is copied to its front.
 // The memory is fixed, and a library's queue would keep its words apart from one another or on the heap: so a buffer with a place beside it.
+// The buffer is one word longer than the window reaches: so the compiler sees that no word is written over the fields behind it.
 #[derive(Drop)]
 pub struct Register<R> {
-    buffer: [u16; 273],
+    buffer: [u16; 272],
     start: u8,
+    newest: u16,
     role: PhantomData<R>,
 }
 
 impl<R> Model for Register<R> {
-    ghost use Rattle.std.specs.Prelude.{ℕ, List, take, drop};
+    ghost use Rattle.std.specs.Prelude.{ℕ, List, [], ◌∷◌, ◌++◌, take, drop};
 
     ghost Value = { List ℕ };
 
-    ghost view = { λ s. take 17 (drop s.start s.buffer) };
+    ghost view = { λ s. take 16 (drop s.start s.buffer) ++ s.newest ∷ [] };
 }
 
 impl<R> Register<R> {
@@ -49,11 +51,12 @@ impl<R> Register<R> {
     pub fn from_words(words: [u16; 17]) -> Self
         ensures { result ≡ words }
     {
-        let mut buffer = [0; 273];
-        buffer[0..17].copy_from_slice(&words);
+        let mut buffer = [0; 272];
+        buffer[..16].copy_from_slice(&words[..16]);
         Register {
             buffer,
             start: 0,
+            newest: words[16],
             role: PhantomData,
         }
     }
@@ -63,27 +66,32 @@ impl<R> Register<R> {
         ensures { result ≡ self.now }
     {
         let start = usize::from(self.start);
-        let mut words = [0; 17];
-        words.copy_from_slice(&self.buffer[start..start + 17]);
+        let mut words = [self.newest; 17];
+        words[..16].copy_from_slice(&self.buffer[start..start + 16]);
         words
     }
 
     /// The word at place `i`; the oldest is at 0.
-    #[tactic(auto, using(crate::proofs::Windows::view_at))]
     pub(crate) fn at(&self, i: usize) -> u16
         requires { i < 17 }
         ensures { result ≡ slice_index self.now i }
     {
+        if i == 16 {
+            return self.newest;
+        }
         self.buffer[usize::from(self.start) + i]
     }
 
     /// Writes the word at place `i`.
-    #[tactic(auto, using(crate::proofs::Windows::view_put))]
     pub(crate) fn put(&mut self, i: usize, word: u16)
         requires { i < 17 }
         ensures { self.new ≡ slice_set self.old i word }
     {
-        self.buffer[usize::from(self.start) + i] = word;
+        if i == 16 {
+            self.newest = word;
+        } else {
+            self.buffer[usize::from(self.start) + i] = word;
+        }
     }
 
     /// The oldest word leaves, all others move down by one place, and `word` enters at 16.
@@ -91,10 +99,11 @@ impl<R> Register<R> {
         ensures { self.new ≡ drop 1 self.old ++ word ∷ [] }
     {
         if self.start == u8::MAX {
-            self.buffer.copy_within(255..272, 0);
+            self.buffer.copy_within(255..271, 0);
             self.start = 0;
         }
-        self.buffer[usize::from(self.start) + 17] = word;
+        self.buffer[usize::from(self.start) + 16] = self.newest;
         self.start += 1;
+        self.newest = word;
     }
 }

@@ -51,6 +51,16 @@ impl Registers {
         }
     }
 
+    /// Registers that hold these words, r[0] and c[0] first.
+    pub fn from_words(cipher: [u16; 17], check: [u16; 17]) -> Self
+        ensures { result ≡ record { r = cipher; c = check } }
+    {
+        Registers {
+            cipher: Register::from_words(cipher),
+            check: Register::from_words(check),
+        }
+    }
+
     /// Sets both registers to zero.
     pub fn reset(&mut self)
         ensures { self.new ≡ zeroed }
@@ -91,6 +101,7 @@ impl Registers {
     }
 
     /// Takes a plaintext word under its mask into both registers, and answers its wire word.
+    #[inline(always)]
     #[tactic(auto, using(crate::proofs::Asked::asked_then, crate::proofs::Words::mactext_is), unfolding(crate::specs::Cipher::taken, crate::specs::Cipher::wire_word, crate::specs::Cipher::masked, crate::specs::Cipher::ciphertext))]
     pub fn seal_word<K: KeyedFunction, C: Coefficient>(
         &mut self,
@@ -108,6 +119,7 @@ impl Registers {
 
     /// Takes a wire word under its mask into both registers, and answers its plaintext word.
     // No twin of the one above: the word that is absorbed is another, and so is the law. Through `Direction` the two would be longer.
+    #[inline(always)]
     pub fn open_word<K: KeyedFunction, C: Coefficient>(
         &mut self,
         f: &mut K,
@@ -117,10 +129,11 @@ impl Registers {
     ) -> u16
         ensures { Asked K.KeyedFunction f.old f.new (λ g. (result ≡ plain_word g self.old mask wire) × (self.new ≡ taken g (C.image a.now) self.old mask (plain_word g self.old mask wire)) × WordBack g (C.image a.now) self.old mask wire result self.new) }
     {
-        let v = self.cipher.keystream(f);
-        let plain = wire ^ (mask & v);
-        self.absorb(f, a, v, mask, plain);
-        plain
+        if mask == u16::MAX {
+            self.open_sealed_word(f, a, wire)
+        } else {
+            self.open_masked_word(f, a, mask, wire)
+        }
     }
 
     /// Closes the message and draws its tag: 0 is fed in, then c[16] down to c[0], then eight zeros, which are sealed to the tag.
@@ -133,7 +146,41 @@ impl Registers {
         self.cipher.draw(f)
     }
 
+    /// Opens a sealed word. The cipher register steps with it as it came, so that the steps need not wait for the keystream.
+    #[inline(always)]
+    fn open_sealed_word<K: KeyedFunction, C: Coefficient>(
+        &mut self,
+        f: &mut K,
+        a: &C,
+        wire: u16,
+    ) -> u16
+        ensures { Asked K.KeyedFunction f.old f.new (λ g. (result ≡ plain_word g self.old 65535 wire) × (self.new ≡ taken g (C.image a.now) self.old 65535 (plain_word g self.old 65535 wire))) }
+    {
+        let plain = wire ^ self.cipher.keystream(f);
+        self.cipher.step(f, wire);
+        self.check.step(a, plain);
+        plain
+    }
+
+    /// Opens a word under any mask. Kept out of line: were it merged with the way of a sealed word, both would wait for the keystream.
+    #[inline(never)]
+    fn open_masked_word<K: KeyedFunction, C: Coefficient>(
+        &mut self,
+        f: &mut K,
+        a: &C,
+        mask: u16,
+        wire: u16,
+    ) -> u16
+        ensures { Asked K.KeyedFunction f.old f.new (λ g. (result ≡ plain_word g self.old mask wire) × (self.new ≡ taken g (C.image a.now) self.old mask (plain_word g self.old mask wire))) }
+    {
+        let v = self.cipher.keystream(f);
+        let plain = wire ^ (mask & v);
+        self.absorb(f, a, v, mask, plain);
+        plain
+    }
+
     /// One plaintext word into both registers, where `v` is its keystream word.
+    #[inline(always)]
     #[tactic(auto, using(crate::proofs::Asked::asked_so, crate::proofs::States::same_state), unfolding(crate::specs::Cipher::mactext, crate::specs::Cipher::complement))]
     fn absorb<K: KeyedFunction, C: Coefficient>(
         &mut self,

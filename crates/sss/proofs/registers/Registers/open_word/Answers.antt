@@ -1,19 +1,15 @@
-use Rattle.std.proofs.Common.{ap, ◌∙◌}
-use lib.Bits.{bit_and, bit_xor}
-use Rattle.sss.specs.Cipher.{State, keystream}
-use Rattle.sss.proofs.Asked.{asked_then}
+use Rattle.sss.proofs.Asked.{asked_so}
 use Rattle.sss.proofs.Returned.{word_back}
-use Rattle.sss.proofs.States.{opened_with}
 use Rattle.sss.proofs.registers.Registers.open_word.Goals as goal
 
-pub returns : goal.returns
-returns g c =
+pub returns-then-mask-eq65535 : goal.returns-then-mask-eq65535
+returns-then-mask-eq65535 g c =
     let A = g.C.Coefficient.image c.args.a.now in
-    let before = c.args.self.now in
-    let mask = c.args.mask in
-    let wire = c.args.wire in
-    let v = c.keystream-v.result in
-    asked_then c.keystream-v.ensures c.absorb.ensures (λ f drawn absorbed.
-    let opened = opened_with f A before mask wire v (drawn ∙ ap (λ (s : State). keystream f s.r) c.self.view_is) in
-    let after = absorbed ∙ opened.1 in
-    (opened.0, after, word_back f A before mask wire (bit_xor wire (bit_and mask v)) c.absorb.new.self opened.0 after))
+    rw c.if-mask-eq65535.true (asked_so c.open_sealed_word.ensures (λ f opened.
+    (opened.0, opened.1, word_back f A c.args.self.now 65535 c.args.wire c.open_sealed_word.result c.open_sealed_word.new.self opened.0 opened.1)))
+
+pub returns-else-mask-eq65535 : goal.returns-else-mask-eq65535
+returns-else-mask-eq65535 g c =
+    let A = g.C.Coefficient.image c.args.a.now in
+    asked_so c.open_masked_word.ensures (λ f opened.
+    (opened.0, opened.1, word_back f A c.args.self.now c.args.mask c.args.wire c.open_masked_word.result c.open_masked_word.new.self opened.0 opened.1))
