@@ -27,6 +27,26 @@ impl<K, C> Engine<K, C> {
         }
     }
 
+    /// An engine with these registers.
+    pub(crate) fn resumed(function: K, coefficient: C, registers: Registers) -> Self
+        ensures function { result.function ≡ function }
+        ensures coefficient { result.coefficient ≡ coefficient }
+        ensures registers { result.registers ≡ registers }
+    {
+        Engine {
+            function,
+            coefficient,
+            registers,
+        }
+    }
+
+    /// The registers of the message.
+    pub(crate) fn registers(&self) -> &Registers
+        ensures { result.now ≡ self.now.registers }
+    {
+        &self.registers
+    }
+
     /// Sets the registers to zero.
     pub(crate) fn reset(&mut self)
         ensures function { self.new.function ≡ self.old.function }

@@ -1,5 +1,5 @@
 //! Where a receiver stands, and how its calls move it.
-ghost use Rattle.std.specs.Prelude.{◌≡◌, ◌≤◌};
+ghost use Rattle.std.specs.Prelude.{◌≡◌, ◌<◌, ◌≤◌, MatchOption};
 ghost use Rattle.link.specs.Receiving.{decided, row_of};
 
 use crate::reception::{Event, Reception, Release, decide};
@@ -18,6 +18,16 @@ impl Footing {
     {
         Footing {
             reception: Reception::Lost(0),
+        }
+    }
+
+    /// A footing where a receiver stood. A lost one's row above 16 is none.
+    pub(crate) fn at(reception: Reception) -> Option<Self>
+        ensures { MatchOption result (16 < row_of reception) (λ footing. (row_of reception ≤ 16) × (footing.reception ≡ reception)) }
+    {
+        match reception {
+            Reception::Lost(17..) => None,
+            _ => Some(Footing { reception }),
         }
     }
 

@@ -27,6 +27,21 @@ impl Issuer {
         Issuer { run, issued: 0 }
     }
 
+    /// The issuer of a run that goes on where another left off, with so many numbers issued.
+    pub fn resumed(run: u32, issued: u32) -> Self
+        ensures run { result.run ≡ run }
+        ensures issued { result.issued ≡ issued }
+    {
+        Issuer { run, issued }
+    }
+
+    /// How many numbers are issued.
+    pub fn issued(&self) -> u32
+        ensures { result ≡ self.now.issued }
+    {
+        self.issued
+    }
+
     /// The nonce of the next message number. Where all 65,536 are issued it refuses, and nothing is changed.
     pub fn draw(&mut self) -> Result<Nonce, Fault>
         ensures { Draws self.old result self.new }

@@ -2,12 +2,12 @@
 ghost use Rattle.std.specs.Prelude.{◌≡◌, ◌<◌};
 ghost use Rattle.std.specs.List.{AllByRecursion as Every};
 ghost use Rattle.sss.specs.Cipher.{zeroed};
-ghost use Rattle.link.specs.Hearing.{Begins, Finishes, TakesWord};
+ghost use Rattle.link.specs.Hearing.{Begins, Finishes, Resumes, TakesWord};
 
 use crate::engine::Engine;
 use crate::footing::Footing;
 use crate::reception::{Answer, Event, Reception, Release, Verdict};
-use sss::{Coefficient, Fault, KeyedFunction};
+use sss::{Coefficient, Fault, KeyedFunction, Registers};
 
 /// The receiving end: it steps with every word, and hands out a reading only while it is whole or caught.
 #[derive(Drop)]
@@ -24,12 +24,37 @@ impl<K, C> Receiver<K, C> {
         self.footing.reception()
     }
 
+    /// The registers of the message.
+    pub fn registers(&self) -> &Registers
+        ensures { result.now ≡ self.now.engine.registers }
+    {
+        self.engine.registers()
+    }
+
     /// Breaks off: words were lost. The receiver is lost with row 0, and no register is touched.
     pub fn break_off(&mut self)
         ensures reception { self.new.footing.reception ≡ Reception.Lost 0 }
         ensures engine { self.new.engine ≡ self.old.engine }
     {
         let _ = self.footing.go(Event::Break);
+    }
+}
+
+impl<K: Drop, C: Drop> Receiver<K, C> {
+    /// A receiver that goes on where another stood, with its registers. Lost with a row above 16 none can stand.
+    pub fn resumed(
+        function: K,
+        coefficient: C,
+        registers: Registers,
+        reception: Reception,
+    ) -> Option<Self>
+        ensures { Resumes function coefficient registers reception result }
+    {
+        let footing = Footing::at(reception)?;
+        Some(Receiver {
+            engine: Engine::resumed(function, coefficient, registers),
+            footing,
+        })
     }
 }
 

@@ -9,7 +9,7 @@ mod tests {
         ReceiverCall, ReceiverEntry, Reception, Sealer, SealerCall, SealerEntry, Unmade, Verdict,
         run,
     };
-    use sss::{Coefficient, Fault, KeyedFunction};
+    use sss::{Coefficient, Fault, KeyedFunction, Registers};
     use std::alloc::{AllocError, Global};
     use std::process::Abort;
     use std::test::Fail;
@@ -128,6 +128,15 @@ mod tests {
         assert_eq!(rt; receiver.reception(), Reception::Caught);
     }
 
+    // The receiver that goes on where this one stands.
+    fn resumed<K: KeyedFunction, C: Coefficient>(
+        receiver: &Receiver<K, C>,
+    ) -> Result<Option<Receiver<FilledTable, PrintedTable>>, Fail> {
+        let registers = receiver.registers();
+        let registers = Registers::from_words(registers.cipher_words(), registers.check_words());
+        Ok(Receiver::resumed(filled()?, PrintedTable, registers, receiver.reception()))
+    }
+
     // After any verdict the receiver is lost with row 0.
     fn finish<K: KeyedFunction, C: Coefficient>(
         rt: &impl Abort,
@@ -177,6 +186,17 @@ mod tests {
         }
         assert_eq!(rt; number(issuer.draw()), Some(4));
         assert_eq!(rt; number(issuer.draw()), Some(4));
+        Ok(())
+    }
+
+    #[test]
+    fn an_issuer_goes_on_where_another_left_off(rt: HostRuntime) -> Result<(), Fail> {
+        let mut issuer = Issuer::resumed(0x01020304, 65_535);
+        assert!(rt; issuer.draw()?.bytes() == [4, 3, 2, 1, 0xFF, 0xFF]);
+        assert_eq!(rt; issuer.issued(), 65_536);
+        assert_eq!(rt; number(issuer.draw()), Some(4));
+        assert_eq!(rt; issuer.issued(), 65_536);
+        assert_eq!(rt; number(Issuer::resumed(1, u32::MAX).draw()), Some(4));
         Ok(())
     }
 
@@ -232,6 +252,40 @@ mod tests {
         assert_eq!(rt; receiver.word(SEALED, 0x0123), Answer::Reading(0xD5D3));
         assert_eq!(rt; receiver.word(OPEN, 0x4567), Answer::Reading(0x4567));
         assert_eq!(rt; receiver.word(PART, 0x89AB), Answer::Reading(0x8FEB));
+        Ok(())
+    }
+
+    #[test]
+    fn a_receiver_goes_on_where_another_stood(rt: HostRuntime) -> Result<(), Fail> {
+        let mut receiver = Receiver::new(from_key()?, FieldRule);
+        receive_words(&rt, &mut receiver)?;
+        let whole = resumed(&receiver)?;
+        assert!(rt; whole.is_some());
+        if let Some(mut whole) = whole {
+            assert_eq!(rt; whole.reception(), Reception::Whole);
+            finish(&rt, &mut whole, TAG, Verdict::Agrees);
+        }
+        Ok(())
+    }
+
+    #[test]
+    fn a_receiver_goes_on_with_a_row_of_sixteen_and_with_none_above(
+        rt: HostRuntime,
+    ) -> Result<(), Fail> {
+        let lost = Reception::Lost(16);
+        let receiver = Receiver::resumed(filled()?, PrintedTable, Registers::new(), lost);
+        assert!(rt; receiver.is_some());
+        if let Some(mut receiver) = receiver {
+            assert_eq!(rt; receiver.word(SEALED, 0x0123), Answer::Withheld(17));
+            assert_eq!(rt; receiver.reception(), Reception::Caught);
+        }
+        let none = Receiver::resumed(
+            filled()?,
+            PrintedTable,
+            Registers::new(),
+            Reception::Lost(17),
+        );
+        assert!(rt; none.is_none());
         Ok(())
     }
 
