@@ -10,3 +10,6 @@ pub mod OnTape
 pub mod LineForEach
 pub mod Told
 pub mod Listed
+pub mod Placed
+pub mod Room
+pub mod ListedInto

@@ -9,3 +9,4 @@ pub mod Withholding
 pub mod LineByLine
 pub mod Runs
 pub mod Listing
+pub mod Lent

@@ -4,6 +4,7 @@
 
 mod command;
 mod item;
+mod lent;
 mod line;
 mod piece;
 mod reader;
@@ -13,6 +14,7 @@ mod writer;
 
 pub use command::Command;
 pub use item::{Item, WordItem};
+pub use lent::list_into;
 pub use line::Line;
 pub use piece::{BreakItem, NonceItem, OpenItem, PartItem, Piece, SealedItem, TagItem};
 pub use reader::Reader;

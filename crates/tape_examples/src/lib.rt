@@ -9,7 +9,7 @@ mod tests {
     use std::alloc::Global;
     use std::process::Abort;
     use std::test::Fail;
-    use tape::{Command, Item, Line, Reader, Replay, WordItem, Writer, listing};
+    use tape::{Command, Item, Line, Reader, Replay, WordItem, Writer, list_into, listing};
 
     // Each command once, as bytes and as what they say, and the place of each.
     const TAPE: [u8; 36] = [
@@ -53,6 +53,17 @@ mod tests {
         let listed = listing(heap, input)?;
         assert_eq!(rt; listed.as_str(), text);
         Ok(())
+    }
+
+    // The text of a listing stands at the start of a buffer with room to spare, and the rest of the buffer is as it was.
+    fn lists_into(rt: &impl Abort, input: &[u8], text: &str) {
+        let mut buffer = [0xA5; 96];
+        let length = text.len();
+        assert_eq!(rt; list_into(input, &mut buffer), Some(length));
+        assert_eq!(rt; buffer.get(..length), Some(text.as_bytes()));
+        for byte in &buffer[length.min(96)..96] {
+            assert_eq!(rt; *byte, 0xA5);
+        }
     }
 
     // A key of zeros and then breaks, this many bytes in all.
@@ -248,6 +259,36 @@ mod tests {
     fn a_whole_message_is_read_and_its_tag_agrees(rt: HostRuntime) -> Result<(), Fail> {
         let text = "0 nonce\n7 reading 1234\n10 reading 07d0\n13 reading 03ac\n18 agrees\nend 35\n";
         lists(&rt, rt.alloc(), &MESSAGE, text)
+    }
+
+    #[test]
+    fn a_listing_is_put_into_a_lent_buffer(rt: HostRuntime) {
+        let text = "0 break\n1 withheld 1\n4 withheld 0\nrefused 12 at 7\n";
+        lists_into(&rt, &INPUT, text);
+        let text = "0 nonce\n7 reading 1234\n10 reading 07d0\n13 reading 03ac\n18 agrees\nend 35\n";
+        lists_into(&rt, &MESSAGE, text);
+        lists_into(&rt, &[1, 0], "end 0\n");
+        lists_into(&rt, &[], "refused 1\n");
+    }
+
+    #[test]
+    fn a_listing_takes_a_buffer_of_just_its_length(rt: HostRuntime) {
+        let mut buffer = [0xA5; 50];
+        assert_eq!(rt; list_into(&INPUT, &mut buffer), Some(50));
+        let text = "0 break\n1 withheld 1\n4 withheld 0\nrefused 12 at 7\n";
+        assert_eq!(rt; buffer.as_slice(), text.as_bytes());
+    }
+
+    #[test]
+    fn no_part_of_a_listing_is_left_where_it_does_not_fit(rt: HostRuntime) -> Result<(), Fail> {
+        let mut buffer = [0xA5; 49];
+        assert_eq!(rt; list_into(&INPUT, &mut buffer), None);
+        assert!(rt; buffer == [0; 49]);
+        let mut buffer = [0xA5; 8];
+        assert_eq!(rt; list_into(&breaks(rt.alloc(), 65_536)?, &mut buffer), None);
+        assert!(rt; buffer == [0; 8]);
+        assert_eq!(rt; list_into(&INPUT, &mut []), None);
+        Ok(())
     }
 
     #[test]
