@@ -1,3 +1,4 @@
 pub mod Outcomes
 pub mod Receivings
 pub mod OpenAfterSeal
+pub mod Instances

@@ -2,7 +2,7 @@
 use Rattle.std.proofs.Common.{◌≡◌, ◌≢◌, ℕ, cond, List, length, Err, sym, ap, ◌∙◌}
 use Rattle.std.specs.Prelude.{nat_le}
 use Rattle.std.proofs.lemmas.Bool.{cond-true, cond-false, eq-eqb, ne_eqb}
-use Rattle.sss.specs.Cipher.{NonceFits, State, begun, keyed, plain_word, product, tag, taken, words_of, zeroed}
+use Rattle.sss.specs.Cipher.{NonceFits, BothRegisters, begun, keyed, plain_word, product, tag, taken, words_of, zeroed}
 use Rattle.sss.specs.declared.fault.Fault.{Fault}
 use Rattle.sss.specs.declared.fault.Fault.TheVariants.{Key, Nonce, TagLength}
 use Rattle.sss.proofs.Refusals.{nonce_fits_true, nonce_fits_false}
@@ -33,7 +33,7 @@ refused_so : {M : Type 0} (found : M) (answer : CallAnswer) (fault due : Fault) 
     answered answer found ≡ refused due found
 refused_so found answer fault due is same = λ i. answered ((is ∙ ap Err same) i) found
 
-module _ (r r' : FutsambolyReceiver) (s : Receiver FromKey PrintedTable) (stands : Stands r s) (left : State) (reception : Reception) (kept : r' ≡ put_down r left reception) where
+module _ (r r' : FutsambolyReceiver) (s : Receiver FromKey PrintedTable) (stands : Stands r s) (left : BothRegisters) (reception : Reception) (kept : r' ≡ put_down r left reception) where
   pub begins : (nonce : List ℕ) → NonceFits nonce → left ≡ begun (keyed (from_key_table s.engine.function)) product nonce → reception ≡ Whole →
       WhereFits (SetUp r) Key r (begin_due nonce r) 0 r'
   unfolding begin_due

@@ -1,6 +1,6 @@
 -- A receiver in C's memory: what its fields stand for, and what each call on it comes to.
 use Rattle.std.specs.Prelude.{◌≡◌, ◌≢◌, ℕ, ◌≤◌, cond, List, length, replicate, take, ◌==◌, nat_le}
-use Rattle.sss.specs.Cipher.{State, begun, key_table, keyed, nonce_fits, plain_word, product, tag, taken, words_of, zeroed}
+use Rattle.sss.specs.Cipher.{BothRegisters, begun, key_table, keyed, nonce_fits, plain_word, product, tag, taken, words_of, zeroed}
 use Rattle.sss.specs.declared.fault.Fault.TheVariants.{Nonce, TagLength}
 use Rattle.link.specs.Receiving.{answer_of, decided, verdict_of}
 use Rattle.link.specs.declared.reception.Answer.{Answer}
@@ -26,7 +26,7 @@ abbrev pub function_of : FutsambolyReceiver → ℕ → ℕ
 function_of r = keyed (key_table (key_of r))
 
 -- Its registers.
-abbrev pub registers_of : FutsambolyReceiver → State
+abbrev pub registers_of : FutsambolyReceiver → BothRegisters
 registers_of r = record { r = r.cipher; c = r.check }
 
 -- Where it stands, by its byte: 18 is whole, 17 is caught, 0 to 16 is lost with that row, and any other is lost with row 0.
@@ -39,7 +39,7 @@ byte_of Caught = 17
 byte_of (Lost row) = row
 
 -- The receiver once it stands there with these registers: its key stays.
-abbrev pub put_down : FutsambolyReceiver → State → Reception → FutsambolyReceiver
+abbrev pub put_down : FutsambolyReceiver → BothRegisters → Reception → FutsambolyReceiver
 put_down r registers reception =
     record { cipher = registers.r; check = registers.c; key = r.key; key_length = r.key_length; state = byte_of reception }
 

@@ -6,8 +6,8 @@ ghost use Rattle.capi.specs.Calls.{ByKey, ByTable, answered, number_answered};
 ghost use Rattle.capi.specs.Whole.{OpensAgain, opening_due};
 
 use crate::answer::number;
-use crate::table::{FutsambolyTable, filled, given};
-use functions::PrintedTable;
+use crate::table::{FutsambolyTable, given};
+use functions::{FilledTable, PrintedTable};
 use sss::{Fault, KeyedFunction};
 
 /// Opens a message by a key. Refuses a key that does not fit (1), and what opening a message refuses (3, 6 to 9), and nothing is changed; and a tag that
@@ -24,7 +24,7 @@ pub extern "C" fn futsamboly_open(
     ensures outcome { ByKey key.now (λ f. opening_due f nonce.now masks.now input.now tag.now) output.old result output.new }
     ensures back { KeyFits key.now → OpensAgain (keyed (key_table key.now)) nonce.now masks.now input.now tag.now output.old result output.new }
 {
-    let answer = match filled(key) {
+    let answer = match FilledTable::of(key) {
         Ok(mut function) => open(&mut function, nonce, masks, input, output, tag),
         Err(fault) => Err(fault),
     };

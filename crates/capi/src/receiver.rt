@@ -1,5 +1,5 @@
 //! A receiver in the caller's memory, word by word.
-ghost use Rattle.std.specs.Prelude.{◌≡◌, ◌+◌, ◌*◌, ◌<◌, length, slice_index, MatchResult};
+ghost use Rattle.std.specs.Prelude.{◌≡◌, length, MatchResult};
 ghost use Rattle.sss.specs.Cipher.{KeyFits, words_of};
 ghost use Rattle.capi.specs.Calls.{WhereFits, done, number_answered};
 ghost use Rattle.capi.specs.Receivers.{LostWithholds, SetUp, answer_given, begin_due, break_due, finish_due, new_receiver, receiving, verdict_number, word_due};
@@ -8,7 +8,16 @@ use crate::answer::number;
 use crate::standing::{put_down, take_up};
 use functions::FromKey;
 use link::{Answer, Verdict};
-use sss::Fault;
+use sss::{Fault, tag_of_bytes};
+
+/// The number of the verdict that a tag agrees.
+const AGREES: u8 = 1;
+
+/// The number of the verdict that it differs.
+const DIFFERS: u8 = 2;
+
+/// The number of the verdict that the message is broken.
+const BROKEN: u8 = 3;
 
 /// A receiver: its registers, its key, and where it stands.
 #[derive(Drop)]
@@ -84,7 +93,7 @@ pub extern "C" fn futsamboly_receiver_finish(
 fn set_up(receiver: &mut FutsambolyReceiver, key: &[u8]) -> Result<(), Fault>
     ensures { WhereFits (KeyFits key.now) Fault.Key receiver.old (done (new_receiver key.now)) (number_answered result) receiver.new }
 {
-    FromKey::new().load(key)?;
+    FromKey::of(key)?;
     let mut bytes = [0; 16];
     bytes[..key.len()].copy_from_slice(key);
     *receiver = FutsambolyReceiver {
@@ -166,9 +175,9 @@ fn verdict_number(verdict: Verdict) -> u8
     ensures { result ≡ verdict_number verdict }
 {
     match verdict {
-        Verdict::Agrees => 1,
-        Verdict::Differs => 2,
-        Verdict::Broken => 3,
+        Verdict::Agrees => AGREES,
+        Verdict::Differs => DIFFERS,
+        Verdict::Broken => BROKEN,
     }
 }
 
@@ -176,25 +185,6 @@ fn verdict_number(verdict: Verdict) -> u8
 fn tag_words(tag: &[u8]) -> Result<[u16; 8], Fault>
     ensures { MatchResult result (λ words. (length tag.now ≡ 16) × (words ≡ words_of tag.now)) (λ fault. (length tag.now ≡ 16 → ⊥) × (fault ≡ Fault.TagLength)) }
 {
-    if tag.len() != 16 {
-        return Err(Fault::TagLength);
-    }
-    Ok(words(tag))
-}
-
-/// The words of sixteen bytes.
-fn words(tag: &[u8]) -> [u16; 8]
-    requires { length tag.now ≡ 16 }
-    ensures { result ≡ words_of tag.now }
-{
-    std::array::from_fn(|i| word_at(tag, i))
-}
-
-/// The word at a place among bytes.
-#[tactic(auto, using(sss::proofs::Bytes::word_at))]
-fn word_at(bytes: &[u8], i: usize) -> u16
-    requires { 2 * i + 1 < length bytes.now }
-    ensures { result ≡ slice_index (words_of bytes.now) i }
-{
-    u16::from_le_bytes([bytes[2 * i], bytes[2 * i + 1]])
+    let bytes = tag.try_into().map_err(|_| Fault::TagLength)?;
+    Ok(tag_of_bytes(bytes))
 }

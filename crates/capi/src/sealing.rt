@@ -6,8 +6,8 @@ ghost use Rattle.capi.specs.Whole.{sealing_due, sealing_memory};
 
 use crate::answer::number;
 use crate::issuer::{FutsambolyIssuer, FutsambolyNonce, draw};
-use crate::table::{FutsambolyTable, filled, given};
-use functions::PrintedTable;
+use crate::table::{FutsambolyTable, given};
+use functions::{FilledTable, PrintedTable};
 use sss::{Fault, KeyedFunction};
 
 /// Seals a message by a key, with the next nonce of an issuer, which is reported. Refuses a key that does not fit (1) and an issuer that has issued all (4),
@@ -24,7 +24,7 @@ pub extern "C" fn futsamboly_seal(
 ) -> u32
     ensures { ByKey key.now (λ f. sealing_due f masks.now input.now) (sealing_memory issuer.old output.old tag.old nonce.old) result (sealing_memory issuer.new output.new tag.new nonce.new) }
 {
-    let answer = match filled(key) {
+    let answer = match FilledTable::of(key) {
         Ok(mut function) => seal(&mut function, issuer, masks, input, output, tag, nonce),
         Err(fault) => Err(fault),
     };

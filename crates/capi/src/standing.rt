@@ -1,8 +1,8 @@
 //! Where a receiver in the caller's memory stands: taken up at the begin of a call, and put down at its end.
-ghost use Rattle.std.specs.Prelude.{◌≡◌, ◌≤◌, MatchResult};
+ghost use Rattle.std.specs.Prelude.{◌≡◌, ◌<◌, MatchResult};
 ghost use Rattle.sss.specs.Cipher.{Lawful, key_table};
 ghost use Rattle.functions.specs.Functions.{from_key_table};
-ghost use Rattle.link.specs.Receiving.{row_of};
+ghost use Rattle.link.specs.Receiving.{catches_up, row_of};
 ghost use Rattle.capi.specs.Receivers.{SetUp, byte_of, key_of, reception_of, put_down};
 ghost use Rattle.capi.specs.Standing.{Stands};
 
@@ -10,6 +10,12 @@ use crate::receiver::FutsambolyReceiver;
 use functions::{FromKey, PrintedTable};
 use link::{Receiver, Reception};
 use sss::{Fault, Registers};
+
+/// The byte of a caught receiver. A lower one is that of a lost receiver, and its row.
+const CAUGHT: u8 = 17;
+
+/// The byte of a whole receiver.
+const WHOLE: u8 = 18;
 
 /// The receiver of the link that stands there. Where none was set up it refuses.
 pub(crate) fn take_up(
@@ -19,7 +25,7 @@ pub(crate) fn take_up(
 {
     let function = key_function(receiver)?;
     let registers = Registers::from_words(receiver.cipher, receiver.check);
-    // A row of 16 or less is always a state, and the checker proves that this does not stop.
+    // A row that has not caught up is always a state, and the checker proves that this does not stop.
     let linked = Receiver::resumed(
         function,
         PrintedTable,
@@ -47,20 +53,18 @@ fn key_function(receiver: &FutsambolyReceiver) -> Result<FromKey, Fault>
     if length > 16 {
         return Err(Fault::Key);
     }
-    let mut function = FromKey::new();
-    function.load(&receiver.key[..length])?;
-    Ok(function)
+    FromKey::of(&receiver.key[..length])
 }
 
 /// Where a receiver stands, by its byte.
 fn reception(byte: u8) -> Reception
     ensures value { result ≡ reception_of byte }
-    ensures row { row_of result ≤ 16 }
+    ensures row { row_of result < catches_up }
 {
     match byte {
-        ..=16 => Reception::Lost(byte),
-        17 => Reception::Caught,
-        18 => Reception::Whole,
+        ..CAUGHT => Reception::Lost(byte),
+        CAUGHT => Reception::Caught,
+        WHOLE => Reception::Whole,
         _ => Reception::Lost(0),
     }
 }
@@ -70,8 +74,8 @@ fn byte(reception: Reception) -> u8
     ensures { result ≡ byte_of reception }
 {
     match reception {
-        Reception::Whole => 18,
-        Reception::Caught => 17,
+        Reception::Whole => WHOLE,
+        Reception::Caught => CAUGHT,
         Reception::Lost(row) => row,
     }
 }

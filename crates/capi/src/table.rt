@@ -25,18 +25,9 @@ pub extern "C" fn futsamboly_fill_table(key: &[u8], table: &mut FutsambolyTable)
 fn fill(key: &[u8], table: &mut FutsambolyTable) -> Result<(), Fault>
     ensures { WhereFits (KeyFits key.now) Fault.Key table.old (done (record { words = key_table key.now })) (number_answered result) table.new }
 {
-    let function = filled(key)?;
+    let function = FilledTable::of(key)?;
     table.words.copy_from_slice(function.entries());
     Ok(())
-}
-
-/// The keyed function of a key of 1 to 16 bytes. Any other is refused.
-pub(crate) fn filled(key: &[u8]) -> Result<FilledTable, Fault>
-    ensures { MatchResult result (λ f. KeyFits key.now × (f.entries ≡ key_table key.now) × Lawful f.entries) (λ fault. (KeyFits key.now → ⊥) × (fault ≡ Fault.Key)) }
-{
-    let mut function = FilledTable::new();
-    function.load(key)?;
-    Ok(function)
 }
 
 /// The keyed function of a table that keeps the law. Any other is refused.

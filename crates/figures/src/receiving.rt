@@ -10,9 +10,7 @@ use sss::Fault;
 fn after_sealed(words: u8) -> Result<Receiver<FromKey, PrintedTable>, Fault>
     ensures { MatchResult result (λ r. r.footing.reception ≡ after_sealed words) (λ _. ⊥) }
 {
-    let mut function = FromKey::new();
-    function.load(&[0x00])?;
-    let mut receiver = Receiver::new(function, PrintedTable);
+    let mut receiver = Receiver::new(FromKey::of(&[0x00])?, PrintedTable);
     for _ in 0..words {
         let _ = receiver.word(0xFFFF, 0x8218);
     }

@@ -4,9 +4,10 @@ use lib.Bits.{bit_xor, xor_lt, xor_comm}
 use Rattle.std.proofs.lemmas.List.FromFn.{get_or-map-range_with_len, length-map-range_with_len}
 use Rattle.std.proofs.lemmas.List.{at_drop_more, at_drop_all, get_or_past, get_or-replicate, length-replicate}
 use Rattle.std.proofs.lemmas.Bool.{cases_lt}
+use Rattle.sss.specs.Bytes.{Octets}
 use Rattle.sss.specs.Tables.{skipjack, qbox}
 use Rattle.sss.specs.Cipher.{Word, Lawful, keyed, key_byte, key_word, key_entry, key_table, rotate}
-use Rattle.functions.specs.TableRules.{skipjack_apart, skipjack_byte}
+use Rattle.functions.proofs.Skipjack.{skipjack_apart, skipjack_byte}
 use Rattle.sss.proofs.Words.{xor_undo, xor_cancel}
 
 module _ (key : List ℕ) (i b : ℕ) where
@@ -31,16 +32,13 @@ module _ (key : List ℕ) (i b : ℕ) where
   key_word_all h = at_drop_all (λ ks. key_word i ks b) key i h
 
 -- THE TABLE OF A KEY KEEPS THE LAW. Its bytes b(N) are a permutation of the bytes.
-abbrev pub Bytes : List ℕ → Type 0
-Bytes xs = (i : ℕ) → get_or xs i 0 < 256
-
-key_byte_byte : (key : List ℕ) → Bytes key → (b : ℕ) → b < 256 → key_byte key b < 256
+key_byte_byte : (key : List ℕ) → Octets key → (b : ℕ) → b < 256 → key_byte key b < 256
 unfolding key_byte
 key_byte_byte [] h b l = l
 key_byte_byte (k ∷ ks) h b l =
     key_byte_byte ks (λ i. h (suc i)) (get_or skipjack (bit_xor b k) 0) (skipjack_byte (bit_xor b k) (xor_lt 8 b k l (h 0)))
 
-key_byte_apart : (key : List ℕ) → Bytes key → (b d : ℕ) → b < 256 → d < 256 → key_byte key b ≡ key_byte key d → b ≡ d
+key_byte_apart : (key : List ℕ) → Octets key → (b d : ℕ) → b < 256 → d < 256 → key_byte key b ≡ key_byte key d → b ≡ d
 unfolding key_byte
 key_byte_apart [] h b d p q e = e
 key_byte_apart (k ∷ ks) h b d p q e =
@@ -65,7 +63,7 @@ pub key_table_none : key_table [] ≡ replicate 256 0
 unfolding key_table key_entry key_byte key_word
 key_table_none = refl
 
-module _ (key : List ℕ) (bytes : Bytes key) where
+module _ (key : List ℕ) (bytes : Octets key) where
   key_entry_word : (i : ℕ) → i < 256 → Word (key_entry key i)
   unfolding key_entry
   key_entry_word i h = omega (arith, xor_lt 8 (key_byte key i) i (key_byte_byte key bytes i h) h)

@@ -4,7 +4,7 @@ use lib.Bits.{bit_xor}
 use Rattle.std.proofs.lemmas.List.{get_or-set_same, get_or-set_other, length-set}
 use Rattle.std.proofs.lemmas.Bool.{cases_eq, cases_lt, true≢false}
 use Rattle.sss.specs.Cipher.{Lawful}
-use Rattle.functions.proofs.Arrays.{blank_at}
+use Rattle.sss.proofs.Arrays.{blank_at}
 
 -- The byte that the law asks to differ from entry to entry.
 abbrev pub byte_at : List ℕ → ℕ → ℕ

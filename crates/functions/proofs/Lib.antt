@@ -1,4 +1,5 @@
-pub mod Arrays
+pub mod Skipjack
+pub mod Products
 pub mod Keys
 pub mod Law
 pub mod Remembered

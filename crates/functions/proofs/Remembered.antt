@@ -5,7 +5,7 @@ use Rattle.std.proofs.lemmas.List.{get_or-set_same, get_or-set_other, set_past, 
 use Rattle.std.proofs.lemmas.Bool.{cases_eq, cases_lt}
 use Rattle.sss.specs.Cipher.{keyed}
 use Rattle.functions.specs.Functions.{Remembers}
-use Rattle.functions.proofs.Arrays.{blank_at}
+use Rattle.sss.proofs.Arrays.{blank_at}
 use Rattle.sss.proofs.Words.{xor_undo}
 
 pub remembers_none : (S : List ℕ) → Remembers S (replicate 256 None)

@@ -1,4 +1,3 @@
 pub mod Functions
 pub mod Figures
-pub mod Products
-pub mod TableRules
+pub mod Witnesses

@@ -1,7 +1,7 @@
 //! Two implementations of the coefficient of the check register.
 ghost use Rattle.std.specs.Prelude.{◌≡◌};
 ghost use Rattle.sss.specs.Cipher.{product, times_z};
-ghost use Rattle.functions.specs.Products.{product_one_to_one};
+ghost use Rattle.functions.specs.Witnesses.{product_one_to_one};
 
 use crate::tables::{high_byte, printed_product};
 use sss::Coefficient;
@@ -20,7 +20,7 @@ impl Coefficient for PrintedTable {
     }
 }
 
-/// The coefficient by the rule behind the table: bits are coefficients of powers of z, and T[i] is i times z^16 modulo
+/// The coefficient by the rule behind the table: bit i of a word stands for z^i, and T[i] is i times z^16 modulo
 /// z^16 + z^14 + z^12 + z^3 + z^2 + z + 1.
 #[derive(Clone, Copy)]
 pub struct FieldRule;
@@ -37,7 +37,7 @@ impl Coefficient for FieldRule {
 }
 
 /// A word times z.
-#[tactic(auto, using(crate::specs::Products::times_z_low, crate::specs::Products::times_z_high))]
+#[tactic(auto, using(crate::proofs::Products::times_z_low, crate::proofs::Products::times_z_high))]
 fn times_z(a: u16) -> u16
     ensures { result ≡ times_z a }
 {

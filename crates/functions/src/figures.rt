@@ -1,8 +1,7 @@
 //! Known figures of the cipher, worked out by this code: a test to run before the first message.
-ghost use Rattle.std.specs.Prelude.{◌≡◌, true, ◌&&◌, ◌==◌, MatchResult};
-ghost use Rattle.sss.specs.Cipher.{KeyFits, Lawful, key_table, mactext, masked};
+ghost use Rattle.std.specs.Prelude.{◌≡◌, true, ◌&&◌, ◌==◌};
+ghost use Rattle.sss.specs.Cipher.{mactext, masked};
 ghost use Rattle.functions.specs.Figures.{FiguresHold, zero_keystream};
-ghost use Rattle.functions.specs.Functions.{from_key_table};
 
 use crate::coefficient::{FieldRule, PrintedTable};
 use crate::from_key::FromKey;
@@ -29,24 +28,15 @@ fn figures_agree() -> Result<bool, Fault>
     )
 }
 
-/// The function of a key.
-fn keyed_by(key: &[u8]) -> Result<FromKey, Fault>
-    ensures { MatchResult result (λ f. (from_key_table f ≡ key_table key.now) × Lawful (from_key_table f)) (λ _. KeyFits key.now → ⊥) }
-{
-    let mut f = FromKey::new();
-    f.load(key)?;
-    Ok(f)
-}
-
 /// Images under short keys.
 fn keyed_figures() -> Result<bool, Fault>
     ensures { result ≡ Ok true }
 {
     let images = [
-        keyed_by(&[0x00])?.apply(0x0000),
-        keyed_by(&[0x00])?.apply(0x0102),
-        keyed_by(&[0x01])?.apply(0x0000),
-        keyed_by(&[0x00, 0x00])?.apply(0x0000),
+        FromKey::of(&[0x00])?.apply(0x0000),
+        FromKey::of(&[0x00])?.apply(0x0102),
+        FromKey::of(&[0x01])?.apply(0x0000),
+        FromKey::of(&[0x00, 0x00])?.apply(0x0000),
     ];
     Ok(images == [0xA34A, 0xD7EF, 0xD7ED, 0x2CFE])
 }
@@ -68,7 +58,7 @@ fn product_figures() -> bool
 fn register_figures() -> Result<bool, Fault>
     ensures { result ≡ Ok true }
 {
-    let mut f = keyed_by(&[0x00])?;
+    let mut f = FromKey::of(&[0x00])?;
     let mut register = CipherRegister::new();
     let v = register.keystream(&mut f);
     register.step(&mut f, 0x0001);
@@ -93,7 +83,7 @@ fn check_figure() -> bool
 fn word_is(mask: u16, wire: u16, mac: u16) -> Result<bool, Fault>
     ensures { result ≡ Ok (masked mask zero_keystream 0x1234 == wire && mactext mask zero_keystream 0x1234 == mac) }
 {
-    let mut f = keyed_by(&[0x00])?;
+    let mut f = FromKey::of(&[0x00])?;
     let mut registers = Registers::new();
     let sealed = registers.seal_word(&mut f, &PrintedTable, mask, 0x1234);
     Ok((sealed == wire) & (registers.check_words()[16] == mac))

@@ -1,7 +1,7 @@
 //! A keyed function that works each entry out from the key.
 ghost use Rattle.std.specs.Prelude.{◌≡◌, replicate};
 ghost use Rattle.sss.specs.Cipher.{KeyFits, Lawful, key_table};
-ghost use Rattle.functions.specs.Functions.{Loads, from_key_table};
+ghost use Rattle.functions.specs.Functions.{IsOfKey, Loads, from_key_table};
 
 use crate::key::Key;
 use crate::tables::high_byte;
@@ -20,6 +20,15 @@ impl FromKey {
         ensures { from_key_table result ≡ replicate 256 0 }
     {
         FromKey { key: Key::none() }
+    }
+
+    /// The function of a key of 1 to 16 bytes. Any other is refused.
+    pub fn of(key: &[u8]) -> Result<Self, Fault>
+        ensures { IsOfKey from_key_table key.now result }
+    {
+        let mut function = FromKey::new();
+        function.load(key)?;
+        Ok(function)
     }
 
     /// Takes a key of 1 to 16 bytes. Any other is refused, and the old function stays.

@@ -1,5 +1,5 @@
 //! A keyed function that remembers the entries of another.
-ghost use Rattle.std.specs.Prelude.{◌≡◌, ◌/◌, replicate, Some, None, bit_xor, slice_index_or, slice_set};
+ghost use Rattle.std.specs.Prelude.{◌≡◌, ◌/◌, replicate, Some, None, OnSome, bit_xor, slice_index_or, slice_set};
 ghost use Rattle.sss.specs.Cipher.{keyed};
 ghost use Rattle.functions.specs.Functions.{LazySound};
 ghost use Rattle.sss.specs.Kept.{Kept};
@@ -55,11 +55,12 @@ impl<K: KeyedFunction> KeyedFunction for LazyTable<K> {
 
     ghost lawful = { λ k h. K.lawful k.below h.0 };
 
-    /// The image of a word; its entry is remembered from then on.
+    /// The image of a word; its entry is remembered from then on. Where it was remembered already, the function beneath is not asked.
     fn apply(&mut self, a: u16) -> u16
         ensures value { LazySound K.sound K.table self.old → result ≡ keyed (K.table self.old.below) a }
         ensures kept { Kept (K.table self.old.below) (LazySound K.sound K.table self.old) (K.table self.new.below) (LazySound K.sound K.table self.new) }
         ensures remembered { self.new.entries ≡ slice_set self.old.entries (a / 256) (Some (bit_xor result a)) }
+        ensures spared { OnSome (slice_index_or self.old.entries (a / 256) None) (self.new.below ≡ self.old.below) }
     {
         let i = high_byte(a);
         match self.remembered(i) {

@@ -1,7 +1,7 @@
 //! Keyed functions that hold their table of 256 words: one is filled from a key, the other is given as it is.
 ghost use Rattle.std.specs.Prelude.{◌≡◌, replicate};
 ghost use Rattle.sss.specs.Cipher.{KeyFits, Lawful, key_table};
-ghost use Rattle.functions.specs.Functions.{Loads};
+ghost use Rattle.functions.specs.Functions.{IsOfKey, Loads};
 
 use crate::given::keeps_law;
 use crate::key::Key;
@@ -44,6 +44,15 @@ impl<R> Table<R> {
 }
 
 impl Table<Filled> {
+    /// The function of a key of 1 to 16 bytes. Any other is refused.
+    pub fn of(key: &[u8]) -> Result<Self, Fault>
+        ensures { IsOfKey (λ f. f.entries) key.now result }
+    {
+        let mut function = FilledTable::new();
+        function.load(key)?;
+        Ok(function)
+    }
+
     /// Takes a key of 1 to 16 bytes. Any other is refused, and the old function stays.
     pub fn load(&mut self, key: &[u8]) -> Result<(), Fault>
         ensures { Loads (λ f. f.entries) (KeyFits key.now) (key_table key.now) Fault.Key self.old result self.new }

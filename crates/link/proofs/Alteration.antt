@@ -1,7 +1,7 @@
 -- One word that was received otherwise than it was sent, among words that were received as they were sent.
 use Rattle.std.proofs.Common.{◌≡◌, ℕ, ◌≢◌, List, ◌∷◌, sym, ap, ◌∙◌, subst}
 use Rattle.std.specs.List.{AllByRecursion as Every}
-use Rattle.sss.specs.Cipher.{State, Word, OneToOne, drawn_from}
+use Rattle.sss.specs.Cipher.{BothRegisters, Word, OneToOne, drawn_from}
 use Rattle.sss.specs.declared.message.MaskedWord.{MaskedWord}
 use Rattle.link.specs.Law.{OneAltered}
 use Rattle.link.proofs.Every.{every_parts}
@@ -10,8 +10,8 @@ use Rattle.link.proofs.Altered.{altered}
 use Rattle.link.proofs.Drawn.{drawn}
 
 -- The registers just before the altered word, which both ends had, and from them the registers of both.
-record Apart (f A : ℕ → ℕ) (b : State) (sent heard : List MaskedWord) (a : OneAltered sent heard) : Type 0 where
-  before : State
+record Apart (f A : ℕ → ℕ) (b : BothRegisters) (sent heard : List MaskedWord) (a : OneAltered sent heard) : Type 0 where
+  before : BothRegisters
   sized : Sized before
   sent_to : all_received f A b sent ≡ all_received f A (received f A before a.mask a.was) a.later
   heard_to : all_received f A b heard ≡ all_received f A (received f A before a.mask a.became) a.later
@@ -19,7 +19,7 @@ record Apart (f A : ℕ → ℕ) (b : State) (sent heard : List MaskedWord) (a :
   became_word : Word a.became
   later_words : Every WireWord a.later
 
-module _ (f A : ℕ → ℕ) (onef : OneToOne f) (oneA : OneToOne A) (b : State) (k : Sized b) (sent heard : List MaskedWord)
+module _ (f A : ℕ → ℕ) (onef : OneToOne f) (oneA : OneToOne A) (b : BothRegisters) (k : Sized b) (sent heard : List MaskedWord)
     (ls : Every WireWord sent) (lh : Every WireWord heard) where
   apart : (a : OneAltered sent heard) → Apart f A b sent heard a
   unfolding all_received
@@ -43,7 +43,7 @@ module _ (f A : ℕ → ℕ) (onef : OneToOne f) (oneA : OneToOne A) (b : State)
   one_altered_check a e =
       let x = apart a in
       altered f A onef oneA x.before x.sized a.mask a.was a.became x.was_word x.became_word a.altered a.later
-      a.later_sealed x.later_words (ap (λ (z : State). z.c) (sym x.sent_to) ∙ e ∙ ap (λ (z : State). z.c) x.heard_to)
+      a.later_sealed x.later_words (ap (λ (z : BothRegisters). z.c) (sym x.sent_to) ∙ e ∙ ap (λ (z : BothRegisters). z.c) x.heard_to)
 
   -- So do the registers that the tags are drawn from.
   pub one_altered_tag : OneAltered sent heard → drawn_from f (all_received f A b sent) ≢ drawn_from f (all_received f A b heard)

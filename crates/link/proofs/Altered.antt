@@ -3,17 +3,18 @@ use Rattle.std.proofs.Common.{◌≡◌, ℕ, zero, suc, ◌+◌, ◌-◌, ◌<�
 use lib.Bits.{bit_and, bit_xor}
 use Rattle.std.specs.List.{AllByRecursion as Every}
 use Rattle.std.proofs.lemmas.Bool.{cases_lt}
-use Rattle.std.proofs.lemmas.List.{ext_get_or, get_or_append_left, get_or-drop, get_or_push, get_or-reverse, length-drop, length-map, length-reverse, length-take-le, reverse-reverse, take-append-drop}
-use Rattle.sss.specs.Cipher.{Word, Words, State, OneToOne, complement, check_step, keystream, ciphertext, masked, mactext}
-use Rattle.sss.specs.Cipher.{taken, plain_word, fed, all_fed, drawn_from}
+use Rattle.std.proofs.lemmas.List.{ext_get_or, get_or_append_left, get_or-drop, get_or_push, length-drop, length-map, length-reverse, length-take-le, reverse-reverse, take-append-drop}
+use Rattle.sss.specs.Cipher.{Word, Words, BothRegisters, OneToOne, complement, check_step, keystream, ciphertext, masked, mactext}
+use Rattle.sss.specs.Cipher.{taken, plain_word, fed, all_fed, drawn_from, sealed_mask}
 use Rattle.sss.specs.declared.message.MaskedWord.{MaskedWord}
+use Rattle.sss.proofs.Bytes.{words_read}
 use Rattle.sss.proofs.Words.{xor_cancel, xor_cancel_left}
 use Rattle.link.specs.Law.{SealedWord}
-use Rattle.link.proofs.Every.{every_drop, every_place, every_take}
+use Rattle.link.proofs.Every.{every_drop, every_reversed, every_take}
 use Rattle.link.proofs.Keystream.{keystream_latest}
 use Rattle.link.proofs.Register.{step_size, steps, forgets, remembers, steps_same}
-use Rattle.link.proofs.Received.{WireWord, Sized, received, all_received, words_from, step_words, ciphertext_word, plain_is_word, received_sized, all_received_sized}
-use Rattle.link.proofs.Received.{received_sealed_c, all_received_sealed_r, received_same_r, all_received-++}
+use Rattle.link.proofs.Received.{WireWord, Sized, received, all_from, all_received, step_words, ciphertext_word, plain_is_word, received_sized, all_received_sized}
+use Rattle.link.proofs.Received.{received_sealed, all_received_sealed_r, received_same_r, all_received-++}
 
 module _ (A : ℕ → ℕ) where
   -- Each cell of the check register but the last moves down one place.
@@ -62,12 +63,12 @@ module _ (A : ℕ → ℕ) where
       ext_get_or 0 c d (lc ∙ sym ld) (λ i h. each i (omega arith))
 
 module _ (f A : ℕ → ℕ) where
-  pub received_moves : (g : State) (k m i : ℕ) → Sized g → i < 16 → get_or (received f A g k m).c i 0 ≡ get_or g.c (suc i) 0
+  pub received_moves : (g : BothRegisters) (k m i : ℕ) → Sized g → i < 16 → get_or (received f A g k m).c i 0 ≡ get_or g.c (suc i) 0
   unfolding received taken
   received_moves g k m i h l = check_moves A g.c _ i h.c_size l
 
   -- Equal check registers after one word from equal cipher registers were equal before it.
-  received_back : OneToOne A → (g h : State) (k m : ℕ) → Sized g → Sized h → g.r ≡ h.r →
+  received_back : OneToOne A → (g h : BothRegisters) (k m : ℕ) → Sized g → Sized h → g.r ≡ h.r →
       (received f A g k m).c ≡ (received f A h k m).c → g.c ≡ h.c
   unfolding received taken plain_word
   received_back oneA g h k m p q e s =
@@ -76,7 +77,7 @@ module _ (f A : ℕ → ℕ) where
       (s ∙ ap (λ (x : List ℕ). check_step A h.c (mac x)) (sym e))
 
   -- Two words from one state that leave one last check cell are one word.
-  pub received_last : (g : State) (k m n : ℕ) → Sized g → get_or (received f A g k m).c 16 0 ≡ get_or (received f A g k n).c 16 0 → m ≡ n
+  pub received_last : (g : BothRegisters) (k m n : ℕ) → Sized g → get_or (received f A g k m).c 16 0 ≡ get_or (received f A g k n).c 16 0 → m ≡ n
   unfolding received taken plain_word masked mactext
   received_last g k m n h e =
       let v : ℕ = keystream f g.r in
@@ -87,7 +88,7 @@ module _ (f A : ℕ → ℕ) where
       xor_cancel m n (bit_and k v) (xor_cancel (bit_xor m (bit_and k v)) (bit_xor n (bit_and k v)) x d)
 
   -- Two words from one state that enter the cipher register as one are one word.
-  pub received_enters : (g : State) (k m n : ℕ) →
+  pub received_enters : (g : BothRegisters) (k m n : ℕ) →
       ciphertext f g.r (plain_word f g k m) ≡ ciphertext f g.r (plain_word f g k n) → m ≡ n
   unfolding plain_word masked ciphertext
   received_enters g k m n e =
@@ -95,7 +96,7 @@ module _ (f A : ℕ → ℕ) where
       xor_cancel m n (bit_and k v) (xor_cancel (bit_xor m (bit_and k v)) (bit_xor n (bit_and k v)) v e)
 
 module _ (f A : ℕ → ℕ) (onef : OneToOne f) (oneA : OneToOne A) where
-  pub all_received_moves : (g : State) (ws : List MaskedWord) (i : ℕ) → Sized g → Every WireWord ws → i + length ws ≤ 16 →
+  pub all_received_moves : (g : BothRegisters) (ws : List MaskedWord) (i : ℕ) → Sized g → Every WireWord ws → i + length ws ≤ 16 →
       get_or (all_received f A g ws).c i 0 ≡ get_or g.c (i + length ws) 0
   unfolding all_received
   all_received_moves g [] i h l b = ap (λ (k : ℕ). get_or g.c k 0) (omega arith)
@@ -104,7 +105,7 @@ module _ (f A : ℕ → ℕ) (onef : OneToOne f) (oneA : OneToOne A) where
       received_moves f A g w.mask w.text (i + length ws) h (omega arith) ∙ ap (λ (k : ℕ). get_or g.c k 0) (omega arith)
 
   -- Equal check registers after the same words from equal cipher registers were equal before them.
-  all_received_back : (g h : State) (ws : List MaskedWord) → Sized g → Sized h → Every WireWord ws → g.r ≡ h.r →
+  all_received_back : (g h : BothRegisters) (ws : List MaskedWord) → Sized g → Sized h → Every WireWord ws → g.r ≡ h.r →
       (all_received f A g ws).c ≡ (all_received f A h ws).c → g.c ≡ h.c
   unfolding all_received
   all_received_back g h [] p q l e s = s
@@ -115,7 +116,7 @@ module _ (f A : ℕ → ℕ) (onef : OneToOne f) (oneA : OneToOne A) where
       (received_same_r f A g h w.mask w.text e) s)
 
   -- Two words from one state with one keystream after them are one word.
-  keystream_back : (g : State) → Sized g → (k m n : ℕ) → Word m → Word n →
+  keystream_back : (g : BothRegisters) → Sized g → (k m n : ℕ) → Word m → Word n →
       keystream f (received f A g k m).r ≡ keystream f (received f A g k n).r → m ≡ n
   unfolding received taken
   keystream_back g h k m n wm wn e =
@@ -126,7 +127,7 @@ module _ (f A : ℕ → ℕ) (onef : OneToOne f) (oneA : OneToOne A) where
       (keystream_latest f onef g.r (enters m) (enters n) h.r_size (words m wm) (words n wn) e)
 
   -- The word after the altered one: its keystreams differ, and so do the words that enter the check register.
-  pub second : (g : State) → Sized g → (k m n x y : ℕ) → Word m → Word n → x ≡ 65535 →
+  pub second : (g : BothRegisters) → Sized g → (k m n x y : ℕ) → Word m → Word n → x ≡ sealed_mask →
       get_or (received f A (received f A g k m) x y).c 16 0 ≡ get_or (received f A (received f A g k n) x y).c 16 0 → m ≡ n
   second g h k m n x y wm wn sx e =
       let gm = received f A g k m in
@@ -138,12 +139,12 @@ module _ (f A : ℕ → ℕ) (onef : OneToOne f) (oneA : OneToOne A) where
       let macs : bit_xor y (keystream f gm.r) ≡ bit_xor y (keystream f gn.r) =
       check_last A gm.c gn.c (bit_xor y (keystream f gm.r)) (bit_xor y (keystream f gn.r)) hm.c_size hn.c_size
       (moves 0 (omega arith)) (moves 4 (omega arith)) (moves 15 (omega arith))
-      (sym (ap (λ (z : List ℕ). get_or z 16 0) (received_sealed_c f A onef oneA gm x y sx hm)) ∙ e ∙
-      ap (λ (z : List ℕ). get_or z 16 0) (received_sealed_c f A onef oneA gn x y sx hn)) in
+      (sym (ap (λ (z : BothRegisters). get_or z.c 16 0) (received_sealed f A onef oneA gm x y sx hm)) ∙ e ∙
+      ap (λ (z : BothRegisters). get_or z.c 16 0) (received_sealed f A onef oneA gn x y sx hn)) in
       keystream_back g h k m n wm wn (xor_cancel_left y (keystream f gm.r) (keystream f gn.r) macs)
 
   -- Up to sixteen words on, the check word of the altered word is still in the register.
-  shows_early : (g : State) → Sized g → (k m n : ℕ) → Word m → Word n → (ws : List MaskedWord) → Every WireWord ws → length ws ≤ 16 →
+  shows_early : (g : BothRegisters) → Sized g → (k m n : ℕ) → Word m → Word n → (ws : List MaskedWord) → Every WireWord ws → length ws ≤ 16 →
       (all_received f A (received f A g k m) ws).c ≡ (all_received f A (received f A g k n) ws).c → m ≡ n
   shows_early g h k m n wm wn ws l b e =
       let i : ℕ = 16 - length ws in
@@ -153,13 +154,13 @@ module _ (f A : ℕ → ℕ) (onef : OneToOne f) (oneA : OneToOne A) where
       received_last f A g k m n h (sym (at m wm) ∙ ap (λ (z : List ℕ). get_or z i 0) e ∙ at n wn)
 
   -- Seventeen words on, the check word of the next word is in cell 0, and the cipher registers are equal.
-  shows_late : (g : State) → Sized g → (k m n : ℕ) → Word m → Word n → (w : MaskedWord) (us vs : List MaskedWord) → length us ≡ 16 →
+  shows_late : (g : BothRegisters) → Sized g → (k m n : ℕ) → Word m → Word n → (w : MaskedWord) (us vs : List MaskedWord) → length us ≡ 16 →
       Every SealedWord (w ∷ us) → Every WireWord (w ∷ us) → Every WireWord vs →
       (all_received f A (received f A g k m) ((w ∷ us) ++ vs)).c ≡ (all_received f A (received f A g k n) ((w ∷ us) ++ vs)).c → m ≡ n
   unfolding all_received
   shows_late g h k m n wm wn w us vs e16 s l l' e =
-      let start : ℕ → State = λ z. received f A g k z in
-      let end : ℕ → State = λ z. all_received f A (start z) (w ∷ us) in
+      let start : ℕ → BothRegisters = λ z. received f A g k z in
+      let end : ℕ → BothRegisters = λ z. all_received f A (start z) (w ∷ us) in
       let ss : (z : ℕ) → Word z → Sized (start z) = λ z wz. received_sized f A onef oneA g k z h wz in
       let se : (z : ℕ) → Word z → Sized (end z) = λ z wz. all_received_sized f A onef oneA (start z) (w ∷ us) (ss z wz) l in
       let r : (z : ℕ) → Word z → (end z).r ≡ steps f (start z).r (map (λ w. w.text) (w ∷ us)) =
@@ -171,8 +172,8 @@ module _ (f A : ℕ → ℕ) (onef : OneToOne f) (oneA : OneToOne A) where
       sym (r n wn) in
       let cs : (end m).c ≡ (end n).c =
       all_received_back (end m) (end n) vs (se m wm) (se n wn) l' same
-      (ap (λ (z : State). z.c) (sym (all_received-++ f A (start m) (w ∷ us) vs)) ∙
-      e ∙ ap (λ (z : State). z.c) (all_received-++ f A (start n) (w ∷ us) vs)) in
+      (ap (λ (z : BothRegisters). z.c) (sym (all_received-++ f A (start m) (w ∷ us) vs)) ∙
+      e ∙ ap (λ (z : BothRegisters). z.c) (all_received-++ f A (start n) (w ∷ us) vs)) in
       let first : (z : ℕ) → Word z → get_or (end z).c 0 0 ≡ get_or (received f A (start z) w.mask w.text).c 16 0 =
       λ z wz. all_received_moves (received f A (start z) w.mask w.text) us 0
       (received_sized f A onef oneA (start z) w.mask w.text (ss z wz) l.0) l.1 (omega arith) ∙
@@ -180,7 +181,7 @@ module _ (f A : ℕ → ℕ) (onef : OneToOne f) (oneA : OneToOne A) where
       second g h k m n w.mask w.text wm wn s.0
       (sym (first m wm) ∙ ap (λ (z : List ℕ). get_or z 0 0) cs ∙ first n wn)
 
-  shows : (g : State) → Sized g → (k m n : ℕ) → Word m → Word n → (ws : List MaskedWord) → Every SealedWord ws → Every WireWord ws →
+  shows : (g : BothRegisters) → Sized g → (k m n : ℕ) → Word m → Word n → (ws : List MaskedWord) → Every SealedWord ws → Every WireWord ws →
       (all_received f A (received f A g k m) ws).c ≡ (all_received f A (received f A g k n) ws).c → m ≡ n
   shows g h k m n wm wn [] s l e = shows_early g h k m n wm wn [] tt (omega arith) e
   shows g h k m n wm wn (w ∷ ws) s l e =
@@ -196,7 +197,7 @@ module _ (f A : ℕ → ℕ) (onef : OneToOne f) (oneA : OneToOne A) where
 
 -- From one state one word is received otherwise than it was sent, under any mask, and then sealed words as they were sent: the check
 -- registers differ, however many words they are.
-pub altered : (f A : ℕ → ℕ) → OneToOne f → OneToOne A → (g : State) → Sized g → (k m n : ℕ) → Word m → Word n → m ≢ n →
+pub altered : (f A : ℕ → ℕ) → OneToOne f → OneToOne A → (g : BothRegisters) → Sized g → (k m n : ℕ) → Word m → Word n → m ≢ n →
     (ws : List MaskedWord) → Every SealedWord ws → Every WireWord ws →
     (all_received f A (received f A g k m) ws).c ≢ (all_received f A (received f A g k n) ws).c
 altered f A onef oneA g h k m n wm wn ne ws s l e = ne (shows f A onef oneA g h k m n wm wn ws s l e)
@@ -217,7 +218,7 @@ length_fed f r [] = refl
 length_fed f r (p ∷ ps) = ap suc (length_fed f (fed f r p) ps)
 
 module _ (f : ℕ → ℕ) (one : OneToOne f) where
-  register_fed : (r : List ℕ) (p : ℕ) → Words r → Word p → Words (fed f r p)
+  pub register_fed : (r : List ℕ) (p : ℕ) → Words r → Word p → Words (fed f r p)
   unfolding fed
   register_fed r p h w = step_words f one r (ciphertext f r p) h (ciphertext_word f one r p h w)
 
@@ -238,31 +239,24 @@ fed_back f r (p ∷ ps) (q ∷ qs) e =
     fed_back f (fed f r p) ps qs (ap (drop 1) e ∙ ap (λ (x : ℕ). fed_words f (fed f r x) qs) (sym pq)) in
     λ i. pq i ∷ rest i
 
-reverse_words : (c : List ℕ) → Words c → Every Word (reverse c)
-reverse_words c h =
-    every_place Word (reverse c) 0
-    (λ i l.
-    let l' : i < length c = subst (λ (n : ℕ). i < n) (length-reverse c) l in
-    subst Word (sym (get_or-reverse c i 0 l')) (h (length c - 1 - i)))
-
 -- Two ends that close into one register are stepped with the same words as their check registers are fed.
-pub drawn_fed : (f : ℕ → ℕ) → OneToOne f → (g h : State) → Sized g → Sized h → drawn_from f g ≡ drawn_from f h →
+pub drawn_fed : (f : ℕ → ℕ) → OneToOne f → (g h : BothRegisters) → Sized g → Sized h → drawn_from f g ≡ drawn_from f h →
     fed_words f (fed f g.r 0) (reverse g.c) ≡ fed_words f (fed f h.r 0) (reverse h.c)
 unfolding drawn_from fed
 drawn_fed f one g h p q d =
-    let r : State → List ℕ = λ x. fed f x.r 0 in
-    let us : State → List ℕ = λ x. fed_words f (r x) (reverse x.c) in
-    let long : (x : State) → Sized x → length (r x) ≡ 17 = λ x k. step_size f x.r (ciphertext f x.r 0) k.r_size in
-    let seventeen : (x : State) → Sized x → length (us x) ≡ 17 =
+    let r : BothRegisters → List ℕ = λ x. fed f x.r 0 in
+    let us : BothRegisters → List ℕ = λ x. fed_words f (r x) (reverse x.c) in
+    let long : (x : BothRegisters) → Sized x → length (r x) ≡ 17 = λ x k. step_size f x.r (ciphertext f x.r 0) k.r_size in
+    let seventeen : (x : BothRegisters) → Sized x → length (us x) ≡ 17 =
     λ x k. length_fed f (r x) (reverse x.c) ∙ length-reverse x.c ∙ k.c_size in
-    let words : (x : State) → Sized x → Words (us x) =
-    λ x k. words_from (us x)
-    (all_fed_words f one (r x) (reverse x.c) (register_fed f one x.r 0 k.r_words (omega arith)) (reverse_words x.c k.c_words)) in
+    let words : (x : BothRegisters) → Sized x → Words (us x) =
+    λ x k. words_read (us x)
+    (all_fed_words f one (r x) (reverse x.c) (register_fed f one x.r 0 k.r_words (omega arith)) (every_reversed Word x.c (all_from x.c k.c_words))) in
     remembers f one (r g) (r h) (us g) (us h) (long g p) (long h q) (seventeen g p) (seventeen h q) (words g p) (words h q)
     (sym (fed_steps f (r g) (reverse g.c)) ∙ d ∙ fed_steps f (r h) (reverse h.c))
 
 -- Two check registers that are closed from one cipher register into one were equal.
-pub drawn_back : (f : ℕ → ℕ) → OneToOne f → (g h : State) → Sized g → Sized h → g.r ≡ h.r → drawn_from f g ≡ drawn_from f h →
+pub drawn_back : (f : ℕ → ℕ) → OneToOne f → (g h : BothRegisters) → Sized g → Sized h → g.r ≡ h.r → drawn_from f g ≡ drawn_from f h →
     g.c ≡ h.c
 drawn_back f one g h p q e d =
     let same : fed_words f (fed f g.r 0) (reverse g.c) ≡ fed_words f (fed f g.r 0) (reverse h.c) =
@@ -270,7 +264,7 @@ drawn_back f one g h p q e d =
     sym (reverse-reverse g.c) ∙ ap reverse (fed_back f (fed f g.r 0) (reverse g.c) (reverse h.c) same) ∙ reverse-reverse h.c
 
 -- Seventeen sealed words or more make the cipher registers equal.
-pub all_received_same : (f A : ℕ → ℕ) → OneToOne f → OneToOne A → (g h : State) → Sized g → Sized h → (ws : List MaskedWord) →
+pub all_received_same : (f A : ℕ → ℕ) → OneToOne f → OneToOne A → (g h : BothRegisters) → Sized g → Sized h → (ws : List MaskedWord) →
     Every SealedWord ws → Every WireWord ws → 17 ≤ length ws → (all_received f A g ws).r ≡ (all_received f A h ws).r
 all_received_same f A onef oneA g h p q ws s l n =
     all_received_sealed_r f A onef oneA g ws s l p ∙
@@ -279,7 +273,7 @@ all_received_same f A onef oneA g h p q ws s l n =
     sym (all_received_sealed_r f A onef oneA h ws s l q)
 
 -- And after seventeen or more of those the tags are drawn from different registers.
-pub altered_drawn : (f A : ℕ → ℕ) → OneToOne f → OneToOne A → (g : State) → Sized g → (k m n : ℕ) → Word m → Word n → m ≢ n →
+pub altered_drawn : (f A : ℕ → ℕ) → OneToOne f → OneToOne A → (g : BothRegisters) → Sized g → (k m n : ℕ) → Word m → Word n → m ≢ n →
     (ws : List MaskedWord) → Every SealedWord ws → Every WireWord ws → 17 ≤ length ws →
     drawn_from f (all_received f A (received f A g k m) ws) ≢ drawn_from f (all_received f A (received f A g k n) ws)
 altered_drawn f A onef oneA g h k m n wm wn ne ws s l long e =

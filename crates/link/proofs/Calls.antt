@@ -2,9 +2,10 @@
 use Rattle.std.proofs.Common.{◌≡◌, ℕ, ◌+◌, ◌<◌, ◌≤◌, List, [], ◌∷◌, ◌++◌, get_or, ap, ◌∙◌}
 use Rattle.std.specs.List.{AllByRecursion as Every}
 use Rattle.std.proofs.lemmas.Bool.{lt-ltb, le-ltb}
-use Rattle.sss.specs.Cipher.{State, taken, wire_word}
+use Rattle.sss.specs.Cipher.{BothRegisters, taken, wire_word}
 use Rattle.sss.specs.declared.Fault.{Fault}
 use Rattle.sss.specs.declared.Fault.TheVariants.{Full}
+use Rattle.link.specs.Sealing.{longest_message}
 use Rattle.link.specs.Ends.{SealerState, in_message, sealer_made, ReceiverState, receiver_made, made, one_call}
 use Rattle.link.specs.declared.call.SealerCall.{SealerCall}
 use Rattle.link.specs.declared.issuer.Nonce.{Nonce}
@@ -18,16 +19,16 @@ use Rattle.link.specs.declared.call.Entry.TheVariants.{OfSealer, OfReceiver}
 use Rattle.link.specs.declared.call.SealerEntry.TheVariants.{Sealed, Refused}
 use Rattle.link.proofs.Every.{every_place}
 
-module _ (f A : ℕ → ℕ) (n n' : ℕ) (g g' : State) (mask p : ℕ) where
-  pub word_sealed : (wire : ℕ) → n < 65536 → n' ≡ n + 1 → wire ≡ wire_word f g mask p → g' ≡ taken f A g mask p →
+module _ (f A : ℕ → ℕ) (n n' : ℕ) (g g' : BothRegisters) (mask p : ℕ) where
+  pub word_sealed : (wire : ℕ) → n < longest_message → n' ≡ n + 1 → wire ≡ wire_word f g mask p → g' ≡ taken f A g mask p →
       (in_message n' g', Sealed mask p wire) ≡ sealer_made f A (in_message n g) (Seal mask p)
   unfolding sealer_made
-  word_sealed wire few more is after = rw (lt-ltb n 65536 few) (λ i. (in_message (more i) (after i), Sealed mask p (is i)))
+  word_sealed wire few more is after = rw (lt-ltb n longest_message few) (λ i. (in_message (more i) (after i), Sealed mask p (is i)))
 
-  pub word_refused : (fault : Fault) → 65536 ≤ n → n' ≡ n → g' ≡ g → fault ≡ Full →
+  pub word_refused : (fault : Fault) → longest_message ≤ n → n' ≡ n → g' ≡ g → fault ≡ Full →
       (in_message n' g', Refused mask p fault) ≡ sealer_made f A (in_message n g) (Seal mask p)
   unfolding sealer_made
-  word_refused fault many same after is = rw (le-ltb n 65536 many) (λ i. (in_message (same i) (after i), Refused mask p (is i)))
+  word_refused fault many same after is = rw (le-ltb n longest_message many) (λ i. (in_message (same i) (after i), Refused mask p (is i)))
 
 -- What a slice's type says of its bytes.
 pub bytes_fit : (bs : List ℕ) → ((i : ℕ) → get_or bs i 0 < 256) → Every (λ b. b < 256) bs

@@ -7,14 +7,14 @@ use lib.Seq.{take-suc}
 use Rattle.std.specs.List.{AllByRecursion as Every}
 use Rattle.std.proofs.lemmas.Bool.{cases_lt}
 use Rattle.std.proofs.lemmas.List.{get_or-reverse, length-append, length-drop, length-map, length-reverse, length-take-le, take-append-drop}
-use Rattle.sss.specs.Cipher.{Word, State, OneToOne, keystream, ciphertext, step, taken, plain_word, fed, drawn_from}
+use Rattle.sss.specs.Cipher.{Word, BothRegisters, OneToOne, keystream, ciphertext, step, taken, plain_word, fed, drawn_from, sealed_mask}
 use Rattle.sss.specs.declared.message.MaskedWord.{MaskedWord}
 use Rattle.sss.proofs.Words.{xor_cancel, xor_cancel_left}
 use Rattle.link.specs.Law.{SealedWord}
 use Rattle.link.proofs.Every.{every_at, every_drop, every_take}
 use Rattle.link.proofs.Register.{cells, cell_step, cell_steps, step_size, steps, steps-++, steps_same, lasting}
 use Rattle.link.proofs.Keystream.{Quiet, quiets, quiet, loud_4, loud_16}
-use Rattle.link.proofs.Received.{Sized, WireWord, received, all_received, ciphertext_word, plain_is_word, received_sized, all_received_sized, received_sealed_c, all_received_sealed_r, all_received-++, all_received_push}
+use Rattle.link.proofs.Received.{Sized, WireWord, received, all_received, ciphertext_word, plain_is_word, received_sized, all_received_sized, received_sealed, all_received_sealed_r, all_received-++, all_received_push}
 use Rattle.link.proofs.Altered.{check_enters, received_moves, received_enters, all_received_moves, second, received_last, altered_drawn, fed_words, length_fed, drawn_fed}
 
 -- What is fed at place j steps the register that the steps before left.
@@ -31,26 +31,26 @@ xor_sides a b x y e =
     (λ h. xor_cancel_left a x y (e ∙ ap (λ (z : ℕ). bit_xor z y) (sym h)), λ h. xor_cancel a b x (e ∙ ap (bit_xor b) (sym h)))
 
 -- The word that the register is stepped with as 0 is fed, and the keystream word after that step and j of the words us.
-abbrev first : (ℕ → ℕ) → State → ℕ
+abbrev first : (ℕ → ℕ) → BothRegisters → ℕ
 first f p = ciphertext f p.r 0
 
-abbrev stream : (ℕ → ℕ) → State → List ℕ → ℕ → ℕ
+abbrev stream : (ℕ → ℕ) → BothRegisters → List ℕ → ℕ → ℕ
 stream f p us j = keystream f (steps f p.r (first f p ∷ take j us))
 
 -- The seventeen words that both ends are stepped with after the first, and what they say of each cell that is fed.
-record Alike (f : ℕ → ℕ) (p q : State) : Type 0 where
+record Alike (f : ℕ → ℕ) (p q : BothRegisters) : Type 0 where
   words : List ℕ
   long : (j : ℕ) → j ≤ 17 → length (take j words) ≡ j
   each : (j : ℕ) → j ≤ 16 → (get_or p.c (16 - j) 0 ≡ get_or q.c (16 - j) 0) ↔ (stream f p words j ≡ stream f q words j)
 
 -- So it is where both ends close into one register.
-alike : (f : ℕ → ℕ) → OneToOne f → (p q : State) → Sized p → Sized q → drawn_from f p ≡ drawn_from f q → Alike f p q
+alike : (f : ℕ → ℕ) → OneToOne f → (p q : BothRegisters) → Sized p → Sized q → drawn_from f p ≡ drawn_from f q → Alike f p q
 unfolding fed steps ciphertext
 alike f one p q hp hq e =
-    let us : State → List ℕ = λ x. fed_words f (fed f x.r 0) (reverse x.c) in
+    let us : BothRegisters → List ℕ = λ x. fed_words f (fed f x.r 0) (reverse x.c) in
     let same : us p ≡ us q = drawn_fed f one p q hp hq e in
-    let cell : State → ℕ → ℕ = λ x j. get_or x.c (16 - j) 0 in
-    let at : (x : State) → Sized x → (j : ℕ) → j ≤ 16 → get_or (us x) j 0 ≡ bit_xor (cell x j) (stream f x (us x) j) =
+    let cell : BothRegisters → ℕ → ℕ = λ x j. get_or x.c (16 - j) 0 in
+    let at : (x : BothRegisters) → Sized x → (j : ℕ) → j ≤ 16 → get_or (us x) j 0 ≡ bit_xor (cell x j) (stream f x (us x) j) =
     λ x h j l.
     fed_at f (fed f x.r 0) (reverse x.c) j (omega (arith, length-reverse x.c, h.c_size)) ∙
     ap (ciphertext f (steps f (fed f x.r 0) (take j (us x))))
@@ -62,9 +62,9 @@ alike f one p q hp hq e =
     }
 
 -- From one state the words m and n, one at each end, under one mask.
-module _ (f A : ℕ → ℕ) (onef : OneToOne f) (oneA : OneToOne A) (g : State) (h : Sized g) (k m n : ℕ) (wm : Word m) (wn : Word n) where
+module _ (f A : ℕ → ℕ) (onef : OneToOne f) (oneA : OneToOne A) (g : BothRegisters) (h : Sized g) (k m n : ℕ) (wm : Word m) (wn : Word n) where
   -- The registers after such a word and others, the word that it steps the cipher register with, and the wire words of the others.
-  abbrev after : ℕ → List MaskedWord → State
+  abbrev after : ℕ → List MaskedWord → BothRegisters
   after z ws = all_received f A (received f A g k z) ws
 
   abbrev enters : ℕ → ℕ
@@ -105,14 +105,14 @@ module _ (f A : ℕ → ℕ) (onef : OneToOne f) (oneA : OneToOne A) (g : State)
   -- Some sealed words follow.
   module _ (ws : List MaskedWord) (s : Every SealedWord ws) (l : Every WireWord ws) where
     -- The registers after i of them, the check word that entered last, and the i-th of them, counted from 0.
-    abbrev upto : ℕ → ℕ → State
+    abbrev upto : ℕ → ℕ → BothRegisters
     upto z i = after z (take i ws)
 
     abbrev check : ℕ → ℕ → ℕ
     check z i = get_or (upto z i).c 16 0
 
     abbrev blank : MaskedWord
-    blank = record { mask = 65535; text = 0 }
+    blank = record { mask = sealed_mask; text = 0 }
 
     abbrev word : ℕ → MaskedWord
     word i = get_or ws i blank
@@ -140,9 +140,10 @@ module _ (f A : ℕ → ℕ) (onef : OneToOne f) (oneA : OneToOne A) (g : State)
         λ z wz.
         let hu : Sized (after z us) = upto_sized z wz (suc i) in
         let before : get_or (after z us).c 15 0 ≡ check z i =
-        ap (λ (x : State). get_or x.c 15 0) (next z i (omega arith)) ∙
+        ap (λ (x : BothRegisters). get_or x.c 15 0) (next z i (omega arith)) ∙
         received_moves f A (upto z i) (word i).mask (word i).text 15 (upto_sized z wz i) (omega arith) in
-        cc (next z (suc i) b, received_sealed_c f A onef oneA (after z us) w.mask w.text sw hu, check_enters A (after z us).c (bit_xor w.text (v z)) hu.c_size, before) in
+        let cell : BothRegisters → ℕ = λ x. get_or x.c 16 0 in
+        cc (ap cell (next z (suc i) b), ap cell (received_sealed f A onef oneA (after z us) w.mask w.text sw hu), check_enters A (after z us).c (bit_xor w.text (v z)) hu.c_size, before) in
         let ev : v m ≡ v n =
         ap (keystream f) (after_r m wm us su lu) ∙
         quiet f (suc i) q g.r g.r (texts us) (enters m) (enters n) h.r_size h.r_size (length-map us (λ w. w.text) ∙ long) refl ∙
@@ -154,7 +155,7 @@ module _ (f A : ℕ → ℕ) (onef : OneToOne f) (oneA : OneToOne A) (g : State)
     check_first : 1 ≤ length ws → check m 1 ≡ check n 1 → m ≡ n
     unfolding all_received
     check_first b e =
-        let cell : State → ℕ = λ x. get_or x.c 16 0 in
+        let cell : BothRegisters → ℕ = λ x. get_or x.c 16 0 in
         second f A onef oneA g h k m n (word 0).mask (word 0).text wm wn (every_at SealedWord ws 0 blank b s)
         (sym (ap cell (next m 0 b)) ∙ e ∙ ap cell (next n 0 b))
 
@@ -165,7 +166,7 @@ module _ (f A : ℕ → ℕ) (onef : OneToOne f) (oneA : OneToOne A) (g : State)
       check_fed i j e b v =
           let at : (z : ℕ) → Word z → get_or (after z ws).c (16 - j) 0 ≡ check z i =
           λ z wz. ap (λ (x : List MaskedWord). get_or (after z x).c (16 - j) 0) (sym (take-append-drop i ws)) ∙
-          ap (λ (x : State). get_or x.c (16 - j) 0) (all_received-++ f A (received f A g k z) (take i ws) (drop i ws)) ∙
+          ap (λ (x : BothRegisters). get_or x.c (16 - j) 0) (all_received-++ f A (received f A g k z) (take i ws) (drop i ws)) ∙
           all_received_moves f A onef oneA (upto z i) (drop i ws) (16 - j) (upto_sized z wz i) (every_drop WireWord i ws l)
           (omega (arith, length-drop i ws)) ∙
           ap (λ (x : ℕ). get_or (upto z i).c x 0) (omega (arith, length-drop i ws)) in
@@ -194,11 +195,11 @@ module _ (f A : ℕ → ℕ) (onef : OneToOne f) (oneA : OneToOne A) (g : State)
       first_same : 1 ≤ length ws → length ws ≤ 14 → first f (after m ws) ≡ first f (after n ws)
       unfolding cell_step cell_steps
       first_same a b =
-          let p : State = after m ws in
-          let q : State = after n ws in
+          let p : BothRegisters = after m ws in
+          let q : BothRegisters = after n ws in
           let hp : Sized p = after_sized m wm ws l in
           let hq : Sized q = after_sized n wn ws l in
-          let fits : (x : State) → Sized x → Word (first f x) = λ x hx. ciphertext_word f onef x.r 0 hx.r_words (omega arith) in
+          let fits : (x : BothRegisters) → Sized x → Word (first f x) = λ x hx. ciphertext_word f onef x.r 0 hx.r_words (omega arith) in
           loud_16 f onef p.r q.r (take 15 d.words) (first f p) (first f q) (fits p hp) (fits q hq) hp.r_size hq.r_size
           (d.long 15 (omega arith))
           (same_cells (λ (x : List ℕ). get_or x 16 0) 1 (λ r s us. refl) a)

@@ -1,10 +1,11 @@
 -- What holds of each element of a list.
-use Rattle.std.proofs.Common.{ℕ, zero, suc, ◌<◌, List, [], ◌∷◌, ◌++◌, length, get_or, take, drop, set, subst, arith}
+use Rattle.std.proofs.Common.{ℕ, zero, suc, ◌<◌, List, [], ◌∷◌, ◌++◌, length, get_or, reverse, take, drop, set, sym, subst, arith}
 use Rattle.std.specs.Prelude.{Contains}
 use Rattle.std.specs.List.{AllByRecursion as Every}
+use Rattle.std.proofs.lemmas.List.{reverse-append}
 
 module _ {X : Type 0} (P : X → Type 0) where
-  -- Joined lists, their parts, and one element more.
+  -- Joined lists, their parts, one element more, and the list turned round.
   pub every_joined : (xs ys : List X) → Every P xs → Every P ys → Every P (xs ++ ys)
   every_joined [] ys h k = k
   every_joined (x ∷ xs) ys h k = (h.0, every_joined xs ys h.1 k)
@@ -15,6 +16,10 @@ module _ {X : Type 0} (P : X → Type 0) where
 
   pub every_push : (xs : List X) (x : X) → Every P xs → P x → Every P (xs ++ x ∷ [])
   every_push xs x h p = every_joined xs (x ∷ []) h (p, tt)
+
+  pub every_reversed : (xs : List X) → Every P xs → Every P (reverse xs)
+  every_reversed [] h = tt
+  every_reversed (x ∷ xs) h = subst (Every P) (sym (reverse-append (x ∷ []) xs)) (every_push (reverse xs) x (every_reversed xs h.1) h.0)
 
   -- The first n, and all but the first n.
   pub every_take : (n : ℕ) (xs : List X) → Every P xs → Every P (take n xs)

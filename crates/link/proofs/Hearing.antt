@@ -3,7 +3,7 @@ use Rattle.std.proofs.Common.{◌≡◌, ℕ, List, [], ◌∷◌, ◌++◌, map
 use Rattle.std.specs.List.{AllByRecursion as Every}
 use Rattle.std.proofs.lemmas.List.{map_push}
 use Rattle.std.proofs.lemmas.Bool.{cond_both}
-use Rattle.sss.specs.Cipher.{State, Word, OneToOne, begun, zeroed, nonce_fits}
+use Rattle.sss.specs.Cipher.{BothRegisters, Word, OneToOne, begun, zeroed, nonce_fits}
 use Rattle.sss.specs.declared.Fault.TheVariants.{Nonce}
 use Rattle.link.specs.Ends.{ReceiverState, receiver_made, ReceiverCallFits}
 use Rattle.link.specs.Log.{Mark, begin, break, finish, Heard, Stretch, heard_too, marked, stretch_noted, Since, heard_noted, heard_wire, start_of}
@@ -24,7 +24,7 @@ module _ (f A : ℕ → ℕ) where
   all_past s (st ∷ ss) h = ((h.0.0, h.0.1, h.0.2, h.0.3), h.1)
 
   -- One more word of a stretch.
-  follows_push : (s : Reception) (g : State) (ws : List Heard) (w : Heard) → Follows f A s g ws →
+  follows_push : (s : Reception) (g : BothRegisters) (ws : List Heard) (w : Heard) → Follows f A s g ws →
       w.answer ≡ told f (moves s ws) (all_received f A g (map heard_wire ws)) w.mask w.wire → Word w.wire →
       Follows f A s g (ws ++ w ∷ [])
   unfolding all_received
@@ -37,10 +37,10 @@ module _ (f A : ℕ → ℕ) where
   moves_push s (u ∷ us) w = moves_push (moved s u.mask) us w
 
   -- One more word, read off the registers that some words led to.
-  reached_push : (g h : State) (ws : List Heard) (w : Heard) → g ≡ all_received f A h (map heard_wire ws) →
+  reached_push : (g h : BothRegisters) (ws : List Heard) (w : Heard) → g ≡ all_received f A h (map heard_wire ws) →
       received f A g w.mask w.wire ≡ all_received f A h (map heard_wire (ws ++ w ∷ []))
   reached_push g h ws w e =
-      ap (λ (x : State). received f A x w.mask w.wire) e ∙ sym (all_received_push f A h (map heard_wire ws) (heard_wire w)) ∙
+      ap (λ (x : BothRegisters). received f A x w.mask w.wire) e ∙ sym (all_received_push f A h (map heard_wire ws) (heard_wire w)) ∙
       sym (ap (all_received f A h) (map_push heard_wire ws w))
 
   -- A new mark.
@@ -64,7 +64,7 @@ module _ (f A : ℕ → ℕ) where
           p.2,
           follows_push from p.0 st.words w p.3
               (e ∙ ap (λ (x : Reception). told f x s.registers w.mask w.wire) p.4 ∙
-              ap (λ (x : State). told f (moves from st.words) x w.mask w.wire) p.5) fits,
+              ap (λ (x : BothRegisters). told f (moves from st.words) x w.mask w.wire) p.5) fits,
           ap (λ (x : Reception). moved x w.mask) p.4 ∙ sym (moves_push from st.words w),
           reached_push s.registers p.0 st.words w p.5,
         ),
@@ -78,7 +78,7 @@ module _ (f A : ℕ → ℕ) (onef : OneToOne f) (oneA : OneToOne A) where
       (let o = receiver_made f A s x in ReceiverGood f A o.0 (stretch_noted o.1 ss) (heard_noted since o.1))
   unfolding receiver_made received all_received
   receiver_keeps s ss since (Hear nonce) fits h =
-      let g : State = begun f A (vec_items nonce) in
+      let g : BothRegisters = begun f A (vec_items nonce) in
       let s' : ReceiverState = record { reception = Whole; registers = g } in
       let k : Sized g = begun_sized f A onef oneA (vec_items nonce) fits in
       cond_both (nonce_fits (vec_items nonce)) (s', receiver.Begun nonce) (s, receiver.Refused nonce Nonce)

@@ -1,7 +1,7 @@
 -- What holds of both ends after any calls: how their registers, messages, stretches and states hang together.
 use Rattle.std.proofs.Common.{◌≡◌, ℕ, ◌<◌, List, [], ◌∷◌, ◌++◌, map, Some, None, Option}
 use Rattle.std.specs.List.{AllByRecursion as Every}
-use Rattle.sss.specs.Cipher.{State, Word, begun, plain_word, wire_word}
+use Rattle.sss.specs.Cipher.{BothRegisters, Word, begun, plain_word, wire_word}
 use Rattle.link.specs.Receiving.{decided, answer_of}
 use Rattle.link.specs.Ends.{SealerState, ready, in_message, registers_of, ReceiverState, Ends, new_ends, made, CallFits}
 use Rattle.link.specs.Log.{Sent, Message, messages, Mark, new, begin, break, finish, Heard, Stretch, stretches, Since, sent_since, heard_since, wire_of, heard_wire, start_of}
@@ -25,7 +25,7 @@ StartFits (Some nonce) = Bytes nonce
 abbrev pub moved : Reception → ℕ → Reception
 moved s mask = (decided s (event.Word mask)).0
 
-abbrev pub told : (ℕ → ℕ) → Reception → State → ℕ → ℕ → Answer
+abbrev pub told : (ℕ → ℕ) → Reception → BothRegisters → ℕ → ℕ → Answer
 told f s g mask m = answer_of (decided s (event.Word mask)).1 (plain_word f g mask m)
 
 -- The receiver's state after a mark, and after some words.
@@ -41,7 +41,7 @@ moves s (w ∷ ws) = moves (moved s w.mask) ws
 
 module _ (f A : ℕ → ℕ) where
   -- words that were sealed one after the other from the registers g on
-  abbrev pub SealedFrom : State → List Sent → Type 0
+  abbrev pub SealedFrom : BothRegisters → List Sent → Type 0
   SealedFrom g [] = Unit {0}
   SealedFrom g (w ∷ ws) = (w.wire ≡ wire_word f g w.mask w.plain) × Word w.wire × SealedFrom (received f A g w.mask w.wire) ws
 
@@ -63,25 +63,25 @@ module _ (f A : ℕ → ℕ) where
     pub is_open : OpenAt s ms since
 
   -- the registers that a stretch starts with
-  abbrev pub Starts : Mark → State → Type 0
+  abbrev pub Starts : Mark → BothRegisters → Type 0
   Starts new g = Unit {0}
   Starts (begin nonce) g = (g ≡ begun f A nonce) × Bytes nonce
   Starts break g = Unit {0}
   Starts finish g = Unit {0}
 
   -- words and answers of a receiver that was in the state s with the registers g
-  abbrev pub Follows : Reception → State → List Heard → Type 0
+  abbrev pub Follows : Reception → BothRegisters → List Heard → Type 0
   Follows s g [] = Unit {0}
   Follows s g (w ∷ ws) =
       (w.answer ≡ told f s g w.mask w.wire) × Word w.wire × Follows (moved s w.mask) (received f A g w.mask w.wire) ws
 
   -- a stretch that is over, and the present one, which led to the state s and the registers g
   abbrev pub Past : Stretch → Type 0
-  Past st = (h : State) × Sized h × Starts st.mark h × Follows (start st.mark) h st.words
+  Past st = (h : BothRegisters) × Sized h × Starts st.mark h × Follows (start st.mark) h st.words
 
   abbrev pub Present : ReceiverState → Stretch → Type 0
   Present s st =
-      (h : State) × Sized h × Starts st.mark h × Follows (start st.mark) h st.words ×
+      (h : BothRegisters) × Sized h × Starts st.mark h × Follows (start st.mark) h st.words ×
       (s.reception ≡ moves (start st.mark) st.words) × (s.registers ≡ all_received f A h (map heard_wire st.words))
 
   abbrev pub AllStretches : ReceiverState → List Stretch → Type 0

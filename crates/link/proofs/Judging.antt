@@ -3,7 +3,7 @@ use Rattle.std.proofs.Common.{◌≡◌, ℕ, Bool, cond, eqb, ◌≢◌, ◌↔
 use Rattle.std.specs.Str.{bytes_eq}
 use Rattle.std.proofs.lemmas.Slice.Eq.{bytes_eq-Decides}
 use Rattle.std.proofs.lemmas.Bool.{cond_both}
-use Rattle.sss.specs.Cipher.{State, begun, tag, message_tag, opened_message}
+use Rattle.sss.specs.Cipher.{BothRegisters, begun, tag, message_tag, opened_message}
 use Rattle.link.specs.Receiving.{decided, verdict_of, with_row, row_after}
 use Rattle.link.specs.Ends.{ReceiverState}
 use Rattle.link.specs.Log.{Mark, new, begin, break, finish, Heard, Stretch, heard_wire}
@@ -101,7 +101,7 @@ module _ (f A : ℕ → ℕ) where
       judged_whole ws nonce received (tag f s.registers) v
       (whole_verdict s.reception nonce ws received (tag f s.registers) v p.4 is)
       (ap (tag f)
-      (p.5 ∙ ap (λ (g : State). all_received f A g (map heard_wire ws)) p.2.0 ∙
+      (p.5 ∙ ap (λ (g : BothRegisters). all_received f A g (map heard_wire ws)) p.2.0 ∙
       all_received_taken f A (begun f A nonce) (map heard_wire ws)))
   judged_at s break ws received v p is =
       judged_lost (record { mark = break; words = ws }) received v

@@ -2,7 +2,8 @@
 use Rattle.std.proofs.Common.{◌≡◌, ◌↔◌, ℕ, ◌+◌, ltb, List, [], ◌∷◌, ◌++◌, map, Some, None, vec_items, Option, sym, refl, ap, ◌∙◌, subst}
 use Rattle.std.specs.List.{AllByRecursion as Every}
 use Rattle.std.proofs.lemmas.Bool.{cond_both}
-use Rattle.sss.specs.Cipher.{State, OneToOne, begun, plain_word, tag, taken, wire_word, drawn_from, sealed_message, opened_message, message_tag, nonce_fits}
+use Rattle.sss.specs.Cipher.{BothRegisters, OneToOne, begun, plain_word, tag, taken, wire_word, drawn_from, sealed_message, opened_message, message_tag, nonce_fits}
+use Rattle.link.specs.Sealing.{longest_message}
 use Rattle.link.specs.Receiving.{answer_of, decided, verdict_of}
 use Rattle.link.specs.Ends.{registers_of, SealerState, ready, in_message, ReceiverState, Ends, sealer_made, receiver_made, made}
 use Rattle.link.specs.Log.{Sent, Message, messages, Mark, begin, Heard, Stretch, stretches, Since, sent_since, heard_since, plain_of, wire_of, heard_wire, start_of, sealer_registers, receiver_registers}
@@ -36,7 +37,7 @@ use Rattle.link.proofs.Invariants.{StartFits, SealedMessage, OpenAt, Starts, Pas
 use Rattle.link.proofs.Sealing.{sealed_taken, sealed_wires}
 use Rattle.link.proofs.Hearing.{all_past}
 use Rattle.link.proofs.Runs.{beginning_run, good, earlier_run}
-use Rattle.link.proofs.Readings.{sealed_wire_words, follows_wire_words, placed_true, assigned_no_false, comes_back}
+use Rattle.link.proofs.Readings.{first_same, sealed_wire_words, follows_wire_words, placed_true, assigned_no_false, comes_back}
 use Rattle.link.proofs.InStep.{in_step}
 use Rattle.link.proofs.Alteration.{one_altered_check, one_altered_tag}
 use Rattle.link.proofs.Judging.{judged}
@@ -54,7 +55,7 @@ module _ (f A : ℕ → ℕ) where
   tag_drawn (ready g) Abandon t ms since o e = absurd cc
   tag_drawn (in_message n g) (Begin k) t ms since o e = absurd cc
   tag_drawn (in_message n g) (Seal mask p) t ms since o e =
-      absurd (cond_both (ltb n 65536) (in_message (n + 1) (taken f A g mask p), Sealed mask p (wire_word f g mask p))
+      absurd (cond_both (ltb n longest_message) (in_message (n + 1) (taken f A g mask p), Sealed mask p (wire_word f g mask p))
       (in_message n g, Refused mask p Full) (λ (o : SealerState × SealerEntry). o.1 ≡ Finished t → ⊥)
       (λ b h. cc) (λ b h. cc) e)
   tag_drawn (in_message n g) Finish t ms since o e = (o, cc)
@@ -188,7 +189,7 @@ module _ (f A : ℕ → ℕ) (onef : OneToOne f) (oneA : OneToOne A) where
   reading_at before mask wire p s (OnSealer x) r h = absurd cc
   reading_at before mask wire p s (OnReceiver x) r h =
       let answer : (receiver_made f A s.receiver x).1 ≡ Received mask wire (Reading p) = cc in
-      reading_given f A s.receiver x mask wire p answer ∙ ap (λ (g : State). plain_word f g mask wire) (receiver_holds r)
+      reading_given f A s.receiver x mask wire p answer ∙ ap (λ (g : BothRegisters). plain_word f g mask wire) (receiver_holds r)
 
   ending : {s : Ends} {log : List Entry} → Run f A s log → (before later : List Entry) (t : List ℕ) (v : Verdict) →
       log ≡ before ++ OfReceiver (Ended t v) ∷ later → Ending before t v
@@ -213,7 +214,7 @@ module _ (f A : ℕ → ℕ) (onef : OneToOne f) (oneA : OneToOne A) where
       let (s', at') = beginning_run f A run heard later' e' in
       let p = (good f A onef oneA at).sealer in
       let q = (good f A onef oneA at').receiver in
-      let from : Option (List ℕ) → State = λ o. start_of f A o in
+      let from : Option (List ℕ) → BothRegisters = λ o. start_of f A o in
       in_step f A onef oneA (sealer_registers f A sent) (receiver_registers f A heard) (from (sent_since sent).start)
       (from (heard_since heard).start) (sent_wires sent) (heard_wires heard) (start_sized (sent_since sent).start p.start_fits)
       (start_sized (heard_since heard).start q.start_fits)
@@ -221,15 +222,12 @@ module _ (f A : ℕ → ℕ) (onef : OneToOne f) (oneA : OneToOne A) where
       (sym (sealer_holds at) ∙ p.reached) (sym (receiver_holds at') ∙ q.reached)
 
   -- The two ends of an unbroken message come from one begin.
-  record FromOne (u-message : Message) (sealer receiver : State) (heard : List Heard) : Type 0 where
+  record FromOne (u-message : Message) (sealer receiver : BothRegisters) (heard : List Heard) : Type 0 where
     sized : Sized (begun f A u-message.nonce)
     sent_fit : Every WireWord (map wire_of u-message.words)
     heard_fit : Every WireWord (map heard_wire heard)
     sealer_is : sealer ≡ all_received f A (begun f A u-message.nonce) (map wire_of u-message.words)
     receiver_is : receiver ≡ all_received f A (begun f A u-message.nonce) (map heard_wire heard)
-
-  first_same : {X : Type 0} (x y : X) (xs ys : List X) → x ∷ xs ≡ y ∷ ys → x ≡ y
-  first_same x y xs ys e = cc
 
   -- What the sealer finished is the message, and what the receiver ended is the stretch.
   sent_of : {s : Ends} {log : List Entry} → Run f A s log → (u : Unbroken log) →
@@ -252,7 +250,7 @@ module _ (f A : ℕ → ℕ) (onef : OneToOne f) (oneA : OneToOne A) where
   unbroken run u =
       let (c, m) = sent_of run u in
       let (d, st) = heard_of run u in
-      let b : List ℕ → State = λ n. begun f A n in
+      let b : List ℕ → BothRegisters = λ n. begun f A n in
       let sealed : SealedMessage f A u.message = subst (SealedMessage f A) m c.sealed in
       let p : Present f A d.receiver u.stretch = subst (Present f A d.receiver) st d.present in
       let starts = subst (λ (k : Mark). Starts f A k p.0) u.begun_with p.2 in
@@ -261,7 +259,7 @@ module _ (f A : ℕ → ℕ) (onef : OneToOne f) (oneA : OneToOne A) where
         sent_fit = sealed_wire_words f A (b u.message.nonce) u.message.words sealed.1;
         heard_fit = follows_wire_words f A _ p.0 u.stretch.words p.3;
         sealer_is = c.registers ∙ ap (λ (x : Message). all_received f A (b x.nonce) (map wire_of x.words)) m;
-        receiver_is = d.registers ∙ p.5 ∙ ap (λ (g : State). all_received f A g (map heard_wire u.stretch.words)) starts.0;
+        receiver_is = d.registers ∙ p.5 ∙ ap (λ (g : BothRegisters). all_received f A g (map heard_wire u.stretch.words)) starts.0;
       }
 
   -- A tag that the sealer drew is that of the message it closed.
@@ -313,7 +311,7 @@ module _ (f A : ℕ → ℕ) (onef : OneToOne f) (oneA : OneToOne A) where
             let o = unbroken run u in
             one_altered_check f A onef oneA (begun f A u.message.nonce) o.sized (map wire_of u.message.words)
             (map heard_wire u.stretch.words) o.sent_fit o.heard_fit a
-            (ap (λ (x : State). x.c) (sym o.sealer_is) ∙ e ∙ ap (λ (x : State). x.c) o.receiver_is);
+            (ap (λ (x : BothRegisters). x.c) (sym o.sealer_is) ∙ e ∙ ap (λ (x : BothRegisters). x.c) o.receiver_is);
         altered_tag = λ u a e.
             let o = unbroken run u in
             one_altered_tag f A onef oneA (begun f A u.message.nonce) o.sized (map wire_of u.message.words)

@@ -3,9 +3,10 @@ use Rattle.std.proofs.Common.{◌≡◌, ℕ, zero, suc, ◌+◌, ◌/◌, ◌<�
 use Rattle.std.specs.List.{AllByRecursion as Every}
 use Rattle.std.proofs.lemmas.List.{map_push}
 use Rattle.std.proofs.lemmas.Bool.{cond_both}
-use Rattle.sss.specs.Cipher.{State, Word, OneToOne, taken, wire_word, all_taken, wire_words}
+use Rattle.sss.specs.Cipher.{BothRegisters, Word, OneToOne, taken, wire_word, all_taken, wire_words}
 use Rattle.sss.specs.declared.Fault.TheVariants.{Full}
 use Rattle.sss.specs.Bytes.{low_bytes}
+use Rattle.link.specs.Sealing.{longest_message}
 use Rattle.link.specs.Issuing.{nonce_bytes}
 use Rattle.link.specs.Ends.{SealerState, ready, in_message, sealer_made, SealerCallFits}
 use Rattle.link.specs.Log.{Sent, Message, sent_too, message_noted, Since, one_more, sent_noted, plain_of, wire_of, start_of}
@@ -31,32 +32,32 @@ nonce_below n =
 
 module _ (f A : ℕ → ℕ) where
   -- A sealed word takes both registers where its wire word takes them.
-  word_taken : (g : State) (w : Sent) → w.wire ≡ wire_word f g w.mask w.plain →
+  word_taken : (g : BothRegisters) (w : Sent) → w.wire ≡ wire_word f g w.mask w.plain →
       taken f A g w.mask w.plain ≡ received f A g w.mask w.wire
   word_taken g w e = sym (received_wire f A g w.mask w.plain) ∙ ap (received f A g w.mask) (sym e)
 
   -- The plaintext words and the wire words of sealed words lead to the same registers.
-  pub sealed_taken : (g : State) (ws : List Sent) → SealedFrom f A g ws →
+  pub sealed_taken : (g : BothRegisters) (ws : List Sent) → SealedFrom f A g ws →
       all_taken f A g (map plain_of ws) ≡ all_received f A g (map wire_of ws)
   unfolding all_taken all_received
   sealed_taken g [] s = refl
   sealed_taken g (w ∷ ws) s =
-      ap (λ (h : State). all_taken f A h (map plain_of ws)) (word_taken g w s.0) ∙
+      ap (λ (h : BothRegisters). all_taken f A h (map plain_of ws)) (word_taken g w s.0) ∙
       sealed_taken (received f A g w.mask w.wire) ws s.2
 
   -- The wire words that the published cipher gives for sealed words are those that were sent.
-  pub sealed_wires : (g : State) (ws : List Sent) → SealedFrom f A g ws → wire_words f A g (map plain_of ws) ≡ map wire_of ws
+  pub sealed_wires : (g : BothRegisters) (ws : List Sent) → SealedFrom f A g ws → wire_words f A g (map plain_of ws) ≡ map wire_of ws
   unfolding wire_words
   sealed_wires g [] s = refl
   sealed_wires g (w ∷ ws) s =
       let here : wire_word f g w.mask w.plain ≡ w.wire = sym s.0 in
       let rest : wire_words f A (taken f A g w.mask w.plain) (map plain_of ws) ≡ map wire_of ws =
-      ap (λ (h : State). wire_words f A h (map plain_of ws)) (word_taken g w s.0) ∙
+      ap (λ (h : BothRegisters). wire_words f A h (map plain_of ws)) (word_taken g w s.0) ∙
       sealed_wires (received f A g w.mask w.wire) ws s.2 in
       λ i. record { mask = w.mask; text = here i } ∷ rest i
 
   -- One more sealed word.
-  sealed_push : (g : State) (ws : List Sent) (w : Sent) → SealedFrom f A g ws →
+  sealed_push : (g : BothRegisters) (ws : List Sent) (w : Sent) → SealedFrom f A g ws →
       w.wire ≡ wire_word f (all_received f A g (map wire_of ws)) w.mask w.plain → Word w.wire → SealedFrom f A g (ws ++ w ∷ [])
   unfolding all_received
   sealed_push g [] w s e fits = (e, fits, tt)
@@ -64,15 +65,15 @@ module _ (f A : ℕ → ℕ) where
 
 module _ (f A : ℕ → ℕ) (onef : OneToOne f) (oneA : OneToOne A) where
   -- A word of the open message: it is sealed from where the words since the latest reset led, and these are the message's.
-  word_keeps : (n : ℕ) (g : State) (ms : List Message) (since : Since Sent) (mask p : ℕ) → Word p → SealerGood f A (in_message n g) ms since →
+  word_keeps : (n : ℕ) (g : BothRegisters) (ms : List Message) (since : Since Sent) (mask p : ℕ) → Word p → SealerGood f A (in_message n g) ms since →
       (let w : Sent = record { mask = mask; plain = p; wire = wire_word f g mask p } in
       SealerGood f A (in_message (n + 1) (taken f A g mask p)) (sent_too w ms) (one_more since w))
   word_keeps n g ms since mask p fits h =
       let w : Sent = record { mask = mask; plain = p; wire = wire_word f g mask p } in
-      let from : State = start_of f A since.start in
+      let from : BothRegisters = start_of f A since.start in
       let m : Message = h.is_open.0 in
       let sealed_too : SealedFrom f A from (since.words ++ w ∷ []) =
-      sealed_push f A from since.words w h.since_sealed (ap (λ (x : State). wire_word f x mask p) h.reached)
+      sealed_push f A from since.words w h.since_sealed (ap (λ (x : BothRegisters). wire_word f x mask p) h.reached)
       (wire_is_word f A onef oneA g mask p h.sized fits) in
       let before : Every (SealedMessage f A) (m ∷ h.is_open.1) = subst (Every (SealedMessage f A)) h.is_open.2 h.sealed in
       record {
@@ -88,7 +89,7 @@ module _ (f A : ℕ → ℕ) (onef : OneToOne f) (oneA : OneToOne A) where
         start_fits = h.start_fits;
         since_sealed = sealed_too;
         reached =
-            word_taken f A g w refl ∙ ap (λ (x : State). received f A x mask w.wire) h.reached ∙
+            word_taken f A g w refl ∙ ap (λ (x : BothRegisters). received f A x mask w.wire) h.reached ∙
             sym (all_received_push f A from (map wire_of since.words) (wire_of w)) ∙
             sym (ap (all_received f A from) (map_push wire_of since.words w));
         is_open = (
@@ -118,7 +119,7 @@ module _ (f A : ℕ → ℕ) (onef : OneToOne f) (oneA : OneToOne A) where
   sealer_keeps (ready g) ms since Abandon fits h = h
   sealer_keeps (in_message n g) ms since (Begin k) fits h = h
   sealer_keeps (in_message n g) ms since (Seal mask p) fits h =
-      cond_both (ltb n 65536) (in_message (n + 1) (taken f A g mask p), sealer.Sealed mask p (wire_word f g mask p))
+      cond_both (ltb n longest_message) (in_message (n + 1) (taken f A g mask p), sealer.Sealed mask p (wire_word f g mask p))
       (in_message n g, sealer.Refused mask p Full)
       (λ (o : SealerState × SealerEntry). SealerGood f A o.0 (message_noted o.1 ms) (sent_noted since o.1))
       (λ e. word_keeps n g ms since mask p fits h) (λ e. h)

@@ -3,6 +3,7 @@ use Rattle.std.proofs.Common.{◌≡◌, ◌↔◌, ℕ, ◌+◌, ◌<◌, ◌�
 use Rattle.std.specs.List.{AllByRecursion as Every}
 use Rattle.std.proofs.lemmas.List.{length_push, same_from_push}
 use Rattle.std.proofs.lemmas.Bool.{cond_both, eqb-true, eqb-false}
+use Rattle.sss.specs.Cipher.{sealed_mask}
 use Rattle.link.specs.Receiving.{Given, Released, decided, row_after, with_row}
 use Rattle.link.specs.Ends.{Leads}
 use Rattle.link.specs.Log.{Mark, new, begin, break, finish, Heard, Stretch, marked, stretch_noted, stretches}
@@ -33,7 +34,7 @@ ends (x ∷ c) = elim (ends c) [
 
 -- Sealed words at the end of some words are no more than their row: more would reach the word before the row, which is not sealed.
 longest : (a b d t : List Heard) → a ++ b ≡ d ++ t → length t < length b → Every SealedHeard b →
-    ((c : List Heard) (y : Heard) → d ≡ c ++ y ∷ [] → y.mask ≢ 65535) → ⊥
+    ((c : List Heard) (y : Heard) → d ≡ c ++ y ∷ [] → y.mask ≢ sealed_mask) → ⊥
 longest a b [] t e l s n = omega (arith, ap length e, length-append a b)
 longest [] b (y ∷ []) t e l s n = n [] y refl (subst (Every SealedHeard) e s).0
 longest [] b (y ∷ z ∷ d) t e l s n =
@@ -45,13 +46,13 @@ longest (x ∷ a) b (y ∷ d) t e l s n = longest a b d t (cc) l s (λ c v p. n 
 row_more : (front : List Heard) (w : Heard) (n : ℕ) → RowIs n front → RowIs (row_after n w.mask) (front ++ w ∷ [])
 unfolding row_after
 row_more front w n r =
-    cond_both (eqb w.mask 65535) (n + 1) 0 (λ (m : ℕ). RowIs m (front ++ w ∷ []))
+    cond_both (eqb w.mask sealed_mask) (n + 1) 0 (λ (m : ℕ). RowIs m (front ++ w ∷ []))
     (λ e. record {
       before = r.before;
       those = r.those ++ w ∷ [];
       parts = ap (λ (z : List Heard). z ++ w ∷ []) r.parts ∙ append_assoc r.before r.those (w ∷ []);
       long = length_push r.those w ∙ ap (λ (k : ℕ). k + 1) r.long;
-      sealed = every_push SealedHeard r.those w r.sealed (eqb-true w.mask 65535 e);
+      sealed = every_push SealedHeard r.those w r.sealed (eqb-true w.mask sealed_mask e);
       no_more = r.no_more;
     })
     (λ e. record {
@@ -60,7 +61,7 @@ row_more front w n r =
       parts = sym (append-nil (front ++ w ∷ []));
       long = refl;
       sealed = tt;
-      no_more = λ c y p m. eqb-false w.mask 65535 e (ap (λ (z : Heard). z.mask) (same_from_push front c w y p).1 ∙ m);
+      no_more = λ c y p m. eqb-false w.mask sealed_mask e (ap (λ (z : Heard). z.mask) (same_from_push front c w y p).1 ∙ m);
     })
 
 -- Where no seventeen sealed words in a row stood before and the row with one word more is shorter than that, none stand with it.
@@ -83,9 +84,9 @@ Counted seen Caught = RowOf17 seen
 Counted seen (Lost n) = (n ≤ 16) × RowIs n seen × ¬ RowOf17 seen
 
 -- A word adds at most 1 to a row.
-row_within : (n mask : ℕ) → row_after n mask ≤ n + 1
+pub row_within : (n mask : ℕ) → row_after n mask ≤ n + 1
 unfolding row_after
-row_within n mask = cond_both (eqb mask 65535) (n + 1) 0 (λ (m : ℕ). m ≤ n + 1) (λ e. omega arith) (λ e. omega arith)
+row_within n mask = cond_both (eqb mask sealed_mask) (n + 1) 0 (λ (m : ℕ). m ≤ n + 1) (λ e. omega arith) (λ e. omega arith)
 
 -- It says so still after one word more.
 counted_more : (seen : List Heard) (w : Heard) (s : Reception) → Counted seen s → Counted (seen ++ w ∷ []) (moved s w.mask)

@@ -1,9 +1,10 @@
 -- The two ends of a link by what their calls leave: where each stands, and its registers.
 use Rattle.std.specs.Prelude.{◌≡◌, ℕ, ◌+◌, ◌<◌, cond, List, [], ◌∷◌, ◌++◌, vec_items, fold, Option, Some, None, nat_lt}
 use Rattle.std.specs.List.{AllByRecursion as Every}
-use Rattle.sss.specs.Cipher.{State, Word, begun, nonce_fits, plain_word, tag, taken, wire_word, zeroed}
+use Rattle.sss.specs.Cipher.{BothRegisters, Word, begun, nonce_fits, plain_word, tag, taken, wire_word, zeroed}
 use Rattle.sss.specs.declared.Fault.TheVariants.{Nonce as UnfitNonce, Full}
 use Rattle.link.specs.Issuing.{nonce_bytes}
+use Rattle.link.specs.Sealing.{longest_message}
 use Rattle.link.specs.Receiving.{decided, answer_of, verdict_of, Released, Given}
 use Rattle.sss.specs.declared.keyed.KeyedFunction.{Ghosts as Keyed}
 use Rattle.sss.specs.declared.coefficient.Coefficient.{Ghosts as Coefficient}
@@ -33,18 +34,18 @@ use Rattle.link.specs.declared.ends.Sealer.TheVariants.{Ready, Open}
 
 -- A sealer is ready, or has a message open of so many words.
 pub data SealerState : Type 0 where
-  ready : State → SealerState
-  in_message : ℕ → State → SealerState
+  ready : BothRegisters → SealerState
+  in_message : ℕ → BothRegisters → SealerState
 
 -- Its registers, open or not.
-abbrev pub registers_of : SealerState → State
+abbrev pub registers_of : SealerState → BothRegisters
 registers_of (ready g) = g
 registers_of (in_message n g) = g
 
 -- A receiver by its state and its registers.
 pub record ReceiverState : Type 0 where
   pub reception : Reception
-  pub registers : State
+  pub registers : BothRegisters
 
 -- The sealer of the code by its state and registers.
 abbrev pub sealing : {K C : Type 0} → Sealer K C → SealerState
@@ -73,7 +74,7 @@ sealer_made f A (ready g) on_sealer.Finish = (ready g, sealer.OutOfTurn on_seale
 sealer_made f A (ready g) on_sealer.Abandon = (ready g, sealer.OutOfTurn on_sealer.Abandon)
 sealer_made f A (in_message n g) (on_sealer.Begin k) = (in_message n g, sealer.OutOfTurn (on_sealer.Begin (nonce_bytes k)))
 sealer_made f A (in_message n g) (on_sealer.Word mask p) =
-    cond (nat_lt n 65536) (in_message (n + 1) (taken f A g mask p), sealer.Sealed mask p (wire_word f g mask p))
+    cond (nat_lt n longest_message) (in_message (n + 1) (taken f A g mask p), sealer.Sealed mask p (wire_word f g mask p))
     (in_message n g, sealer.Refused mask p Full)
 sealer_made f A (in_message n g) on_sealer.Finish = (ready zeroed, sealer.Finished (tag f g))
 sealer_made f A (in_message n g) on_sealer.Abandon = (ready zeroed, sealer.Abandoned)

@@ -1,12 +1,12 @@
 -- What the receiver's calls answer and leave.
 use Rattle.std.specs.Prelude.{◌≡◌, ℕ, ◌<◌, ◌≤◌, List, Option, Some, None, Result}
-use Rattle.sss.specs.Cipher.{State, begun, plain_word, tag, taken, zeroed}
+use Rattle.sss.specs.Cipher.{BothRegisters, begun, plain_word, tag, taken, zeroed}
 use Rattle.sss.specs.Outcomes.{TakesNonce}
 use Rattle.sss.specs.declared.Fault.{Fault}
 use Rattle.sss.specs.declared.keyed.KeyedFunction.{Ghosts as Keyed}
 use Rattle.sss.specs.declared.coefficient.Coefficient.{Ghosts as Coefficient}
 use Rattle.link.specs.Engines.{Worked}
-use Rattle.link.specs.Receiving.{Given, Released, answer_of, decided, row_of, verdict_of}
+use Rattle.link.specs.Receiving.{Given, Released, answer_of, catches_up, decided, row_of, verdict_of}
 use Rattle.link.specs.declared.receiver.Receiver.{Receiver}
 use Rattle.link.specs.declared.reception.Answer.{Answer}
 use Rattle.link.specs.declared.reception.Event.TheVariants.{Finish, Word}
@@ -14,18 +14,18 @@ use Rattle.link.specs.declared.reception.Reception.{Reception}
 use Rattle.link.specs.declared.reception.Reception.TheVariants.{Lost, Whole}
 use Rattle.link.specs.declared.reception.Verdict.{Verdict}
 
--- A receiver that stands there: with this function, this coefficient, these registers and this state. A lost one's row is 16 at most.
-pub record Standing {K C : Type 0} (function : K) (coefficient : C) (registers : State) (reception : Reception) (r : Receiver K C) : Type 0 where
+-- A receiver that stands there: with this function, this coefficient, these registers and this state. A lost one's row has not caught up.
+pub record Standing {K C : Type 0} (function : K) (coefficient : C) (registers : BothRegisters) (reception : Reception) (r : Receiver K C) : Type 0 where
   pub function_is : r.engine.function ≡ function
   pub coefficient_is : r.engine.coefficient ≡ coefficient
   pub registers_are : r.engine.registers ≡ registers
   pub reception_is : r.footing.reception ≡ reception
-  pub row : row_of reception ≤ 16
+  pub row : row_of reception < catches_up
 
--- A receiver that goes on where another stood. A row above 16 is no state, and there is none.
-abbrev pub Resumes : {K C : Type 0} → K → C → State → Reception → Option (Receiver K C) → Type 0
+-- A receiver that goes on where another stood. Lost with a row that has caught up none stands.
+abbrev pub Resumes : {K C : Type 0} → K → C → BothRegisters → Reception → Option (Receiver K C) → Type 0
 Resumes function coefficient registers reception (Some r) = Standing function coefficient registers reception r
-Resumes function coefficient registers reception None = 16 < row_of reception
+Resumes function coefficient registers reception None = catches_up ≤ row_of reception
 
 -- A begin that is taken: the receiver is whole, with the registers of the nonce.
 pub record Begun {K C : Type 0} (F : Keyed K) (L : Coefficient C) (before : Receiver K C) (nonce : List ℕ) (after : Receiver K C) : Type 0 where

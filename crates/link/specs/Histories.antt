@@ -3,7 +3,7 @@
 use Rattle.std.specs.Prelude.{◌≡◌, ℕ, ◌+◌, ◌≤◌, List, [], ◌∷◌, ◌++◌, vec_items, vec_len, vec_capacity, Vec}
 use Rattle.std.specs.List.{AllByRecursion as Every}
 use Rattle.std.specs.declared.alloc.Global.{Global}
-use Rattle.sss.specs.Asked.{Keeps}
+use Rattle.sss.specs.Asked.{Keeps, function_of}
 use Rattle.sss.specs.Cipher.{Word}
 use Rattle.sss.specs.declared.keyed.KeyedFunction.{Ghosts as Keyed}
 use Rattle.sss.specs.declared.coefficient.Coefficient.{Ghosts as Coefficient}
@@ -11,7 +11,6 @@ use Rattle.link.specs.Ends.{Ends, Leads, history, one_call, receiving, registers
 use Rattle.link.specs.Noting.{NotesAll, NotesReceiver, NotesSealer, open_noted, open_words}
 use Rattle.link.specs.Log.{stretches}
 use Rattle.link.specs.Law.{BrokenExactly, Law, OfLatest, StandsAfter, Withholds}
-use Rattle.link.specs.Meaning.{function_of}
 use Rattle.link.specs.declared.call.Call.{Call}
 use Rattle.link.specs.declared.call.Call.TheVariants.{OnSealer, OnReceiver}
 use Rattle.link.specs.declared.call.Entry.{Entry}

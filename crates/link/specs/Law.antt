@@ -3,8 +3,9 @@
 -- coefficient.
 use Rattle.std.specs.Prelude.{◌≡◌, ℕ, ◌+◌, ◌-◌, ◌≤◌, cond, ◌≢◌, ◌⊎◌, ◌↔◌, List, [], ◌∷◌, ◌++◌, map, length, drop, Contains, Option, Some, None, ◌==◌}
 use Rattle.std.specs.List.{AllByRecursion as Every}
-use Rattle.sss.specs.Cipher.{State, drawn_from, plain_word, sealed_message, opened_message, message_tag}
+use Rattle.sss.specs.Cipher.{BothRegisters, drawn_from, plain_word, sealed_message, opened_message, message_tag, sealed_mask}
 use Rattle.sss.specs.declared.message.MaskedWord.{MaskedWord}
+use Rattle.link.specs.Receiving.{catches_up}
 use Rattle.link.specs.Log.{Sent, Message, messages, begin, Heard, Stretch, stretches, sent_since, heard_since, plain_of, wire_of, heard_wire, sealer_registers, receiver_registers}
 use Rattle.link.specs.declared.reception.Reception.{Reception}
 use Rattle.link.specs.declared.reception.Reception.TheVariants.{Whole, Caught, Lost}
@@ -23,15 +24,15 @@ Beginning log early = (later : List Entry) × (log ≡ early ++ later)
 
 -- SEALED WORDS. A word is sealed if its mask is all ones.
 abbrev pub SealedWord : MaskedWord → Type 0
-SealedWord w = w.mask ≡ 65535
+SealedWord w = w.mask ≡ sealed_mask
 
 -- The latest seventeen of some words.
 abbrev pub latest_17 : List MaskedWord → List MaskedWord
-latest_17 ws = drop (length ws - 17) ws
+latest_17 ws = drop (length ws - catches_up) ws
 
 -- There are seventeen words or more, and the latest seventeen are sealed.
 pub record SeventeenSealed (ws : List MaskedWord) : Type 0 where
-  pub enough : 17 ≤ length ws
+  pub enough : catches_up ≤ length ws
   pub sealed : Every SealedWord (latest_17 ws)
 
 -- What was on the wire of some words, without their masks.
@@ -97,7 +98,7 @@ SealedHeard w = SealedWord (heard_wire w)
 
 -- Seventeen sealed words in a row, somewhere among some words.
 abbrev pub RowOf17 : List Heard → Type 0
-RowOf17 ws = (a : List Heard) × (b : List Heard) × (c : List Heard) × (ws ≡ a ++ (b ++ c)) × (length b ≡ 17) × Every SealedHeard b
+RowOf17 ws = (a : List Heard) × (b : List Heard) × (c : List Heard) × (ws ≡ a ++ (b ++ c)) × (length b ≡ catches_up) × Every SealedHeard b
 
 -- The latest n of some words are sealed, and the one before them, if there is one, is not.
 pub record RowIs (n : ℕ) (ws : List Heard) : Type 0 where
@@ -199,7 +200,7 @@ pub record Judged (f A : ℕ → ℕ) (s : Stretch) (tag : List ℕ) (verdict : 
   pub broken : (verdict ≡ Broken) ↔ AfterOther s
 
 -- The law, for a log and the registers that the two ends have at its end.
-pub record Law (f A : ℕ → ℕ) (log : List Entry) (at_sealer at_receiver : State) : Type 0 where
+pub record Law (f A : ℕ → ℕ) (log : List Entry) (at_sealer at_receiver : BothRegisters) : Type 0 where
   -- 1. The registers of each end are those that its words since its latest reset define.
   pub of_sealer : at_sealer ≡ sealer_registers f A log
   pub of_receiver : at_receiver ≡ receiver_registers f A log

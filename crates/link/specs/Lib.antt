@@ -1,4 +1,3 @@
-pub mod Meaning
 pub mod Engines
 pub mod Issuing
 pub mod Sealing

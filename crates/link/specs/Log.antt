@@ -1,7 +1,7 @@
 -- What a log says, in the words of the subject: messages and their words, marks, stretches, and the words since a reset. A log has its
 -- earliest entry first; the lists of messages and of stretches that are read off it have the latest first.
 use Rattle.std.specs.Prelude.{ℕ, List, [], ◌∷◌, ◌++◌, map, Some, None, vec_items, fold, Option}
-use Rattle.sss.specs.Cipher.{State, zeroed, begun, all_taken, plain_words}
+use Rattle.sss.specs.Cipher.{BothRegisters, zeroed, begun, all_taken, plain_words}
 use Rattle.sss.specs.declared.message.MaskedWord.{MaskedWord}
 use Rattle.link.specs.declared.reception.Answer.{Answer}
 use Rattle.link.specs.declared.call.Entry.{Entry}
@@ -152,18 +152,18 @@ abbrev pub heard_wire : Heard → MaskedWord
 heard_wire w = record { mask = w.mask; text = w.wire }
 
 -- The registers at a reset: zero, or those that the begin with this nonce leaves.
-abbrev pub start_of : (ℕ → ℕ) → (ℕ → ℕ) → Option (List ℕ) → State
+abbrev pub start_of : (ℕ → ℕ) → (ℕ → ℕ) → Option (List ℕ) → BothRegisters
 start_of f A None = zeroed
 start_of f A (Some nonce) = begun f A nonce
 
 -- The published cipher's registers after the sealer's words since its latest reset.
-unfoldable pub sealer_registers : (ℕ → ℕ) → (ℕ → ℕ) → List Entry → State
+unfoldable pub sealer_registers : (ℕ → ℕ) → (ℕ → ℕ) → List Entry → BothRegisters
 sealer_registers f A log =
     let s = sent_since log in
     all_taken f A (start_of f A s.start) (map plain_of s.words)
 
 -- The published cipher's registers after the receiver's words since its latest reset.
-unfoldable pub receiver_registers : (ℕ → ℕ) → (ℕ → ℕ) → List Entry → State
+unfoldable pub receiver_registers : (ℕ → ℕ) → (ℕ → ℕ) → List Entry → BothRegisters
 receiver_registers f A log =
     let s = heard_since log in
     let g = start_of f A s.start in

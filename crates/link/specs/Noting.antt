@@ -4,6 +4,7 @@ use Rattle.std.specs.Prelude.{◌≡◌, ℕ, ◌+◌, ◌<◌, ◌≤◌, ◌�
 use Rattle.sss.specs.Cipher.{NonceFits}
 use Rattle.sss.specs.declared.Fault.TheVariants.{Nonce as UnfitNonce, Full}
 use Rattle.link.specs.Issuing.{nonce_bytes}
+use Rattle.link.specs.Sealing.{longest_message}
 use Rattle.link.specs.declared.issuer.Nonce.{Nonce}
 use Rattle.link.specs.declared.reception.Answer.{Answer}
 use Rattle.link.specs.declared.reception.Verdict.{Verdict}
@@ -41,7 +42,7 @@ unfoldable pub open_words : List Entry → Option ℕ
 open_words log = fold open_then None log
 
 -- The entry of a call on the sealer. While no message is open only a begin is in turn, and while one is open, everything else. A word is
--- refused where the message has 65,536 already.
+-- refused where the message has as many already as it may.
 abbrev pub NotesSealer : Option ℕ → SealerCall Nonce → SealerEntry → Type 0
 NotesSealer None (on_sealer.Begin nonce) e = e ≡ sealer.Begun (nonce_bytes nonce)
 NotesSealer None (on_sealer.Word mask plain) e = e ≡ sealer.OutOfTurn (on_sealer.Word mask plain)
@@ -49,7 +50,7 @@ NotesSealer None on_sealer.Finish e = e ≡ sealer.OutOfTurn on_sealer.Finish
 NotesSealer None on_sealer.Abandon e = e ≡ sealer.OutOfTurn on_sealer.Abandon
 NotesSealer (Some n) (on_sealer.Begin nonce) e = e ≡ sealer.OutOfTurn (on_sealer.Begin (nonce_bytes nonce))
 NotesSealer (Some n) (on_sealer.Word mask plain) e =
-    ((n < 65536) × (wire : ℕ) × (e ≡ sealer.Sealed mask plain wire)) ⊎ ((65536 ≤ n) × (e ≡ sealer.Refused mask plain Full))
+    ((n < longest_message) × (wire : ℕ) × (e ≡ sealer.Sealed mask plain wire)) ⊎ ((longest_message ≤ n) × (e ≡ sealer.Refused mask plain Full))
 NotesSealer (Some n) on_sealer.Finish e = (tag : List ℕ) × (e ≡ sealer.Finished tag)
 NotesSealer (Some n) on_sealer.Abandon e = e ≡ sealer.Abandoned
 

@@ -1,7 +1,9 @@
 -- What a receiver hands out and what it withholds.
-use Rattle.std.specs.Prelude.{◌≡◌, ℕ, ◌+◌, ◌/◌, ◌%◌, cond, false, List, [], ◌∷◌, ◌++◌, ◌==◌, codes}
-use Rattle.std.specs.Fmt.{decimal, digit_glyph}
+use Rattle.std.specs.Prelude.{◌≡◌, ℕ, ◌+◌, cond, List, ◌++◌, ◌==◌, codes}
+use Rattle.std.specs.Fmt.{decimal}
 use Rattle.std.specs.Str.{bytes_eq}
+use Rattle.sss.specs.Bytes.{hex_of_word}
+use Rattle.sss.specs.Cipher.{sealed_mask}
 use Rattle.link.specs.declared.reception.Reception.{Reception}
 use Rattle.link.specs.declared.reception.Reception.TheVariants.{Whole, Caught, Lost}
 use Rattle.link.specs.declared.reception.Event.{Event}
@@ -21,11 +23,15 @@ row_of (Lost n) = n
 
 -- The row after a word: a sealed word adds 1, any other word sets it to 0.
 unfoldable pub row_after : ℕ → ℕ → ℕ
-row_after n mask = cond (mask == 65535) (n + 1) 0
+row_after n mask = cond (mask == sealed_mask) (n + 1) 0
 
--- A receiver with this row: at 17 it is caught.
+-- A lost receiver that has taken so many sealed words in a row hands out again.
+abbrev pub catches_up : ℕ
+catches_up = 17
+
+-- A receiver with this row.
 unfoldable pub with_row : ℕ → Reception
-with_row n = cond (n == 17) Caught (Lost n)
+with_row n = cond (n == catches_up) Caught (Lost n)
 
 -- Where a receiver stands after a call, and what becomes of the reading or the verdict. Begin makes it whole, break and finish make it lost
 -- with row 0. Words are handed out by a whole and a caught receiver and withheld by a lost one; a verdict is given by a whole one alone.
@@ -65,13 +71,6 @@ Given HandOut Broken = ⊥
 Given (Withhold n) Agrees = ⊥
 Given (Withhold n) Differs = ⊥
 Given (Withhold n) Broken = Unit {0}
-
--- A byte, and a word, in lower-case hexadecimal digits.
-abbrev pub hex_of_byte : ℕ → List ℕ
-hex_of_byte b = digit_glyph false (b / 16) ∷ digit_glyph false (b % 16) ∷ []
-
-abbrev pub hex_of_word : ℕ → List ℕ
-hex_of_word w = hex_of_byte (w / 256) ++ hex_of_byte (w % 256)
 
 -- An answer and a verdict as they are printed.
 abbrev pub answer_text : Answer → List ℕ

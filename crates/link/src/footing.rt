@@ -1,14 +1,14 @@
 //! Where a receiver stands, and how its calls move it.
 ghost use Rattle.std.specs.Prelude.{◌≡◌, ◌<◌, ◌≤◌, MatchOption};
-ghost use Rattle.link.specs.Receiving.{decided, row_of};
+ghost use Rattle.link.specs.Receiving.{catches_up, decided, row_of};
 
-use crate::reception::{Event, Reception, Release, decide};
+use crate::reception::{CATCHES_UP, Event, Reception, Release, decide};
 
 /// A receiver's footing: a lost one's row is 16 at most.
 #[derive(Clone, Copy)]
 pub struct Footing {
     reception: Reception,
-    ghost row: { row_of reception ≤ 16 },
+    ghost row: { row_of reception < catches_up },
 }
 
 impl Footing {
@@ -23,10 +23,10 @@ impl Footing {
 
     /// A footing where a receiver stood. A lost one's row above 16 is none.
     pub(crate) fn at(reception: Reception) -> Option<Self>
-        ensures { MatchOption result (16 < row_of reception) (λ footing. (row_of reception ≤ 16) × (footing.reception ≡ reception)) }
+        ensures { MatchOption result (catches_up ≤ row_of reception) (λ footing. (row_of reception < catches_up) × (footing.reception ≡ reception)) }
     {
         match reception {
-            Reception::Lost(17..) => None,
+            Reception::Lost(CATCHES_UP..) => None,
             _ => Some(Footing { reception }),
         }
     }

@@ -17,4 +17,4 @@ pub use history::{History, run};
 pub use issuer::{Issuer, Nonce};
 pub use receiver::Receiver;
 pub use reception::{Answer, Reception, Verdict};
-pub use sealer::{OpenMessage, ReadySealer};
+pub use sealer::{LONGEST, OpenMessage, ReadySealer};

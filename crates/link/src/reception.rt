@@ -1,8 +1,15 @@
 //! What a receiver hands out and what it withholds.
-ghost use Rattle.std.specs.Prelude.{◌≡◌, ◌≤◌, Some};
-ghost use Rattle.link.specs.Receiving.{answer_text, decided, row_of, verdict_text};
+ghost use Rattle.std.specs.Prelude.{◌≡◌, ◌<◌, Some};
+ghost use Rattle.link.specs.Receiving.{answer_text, catches_up, decided, row_of, verdict_text};
 
+use sss::SEALED;
 use std::fmt;
+
+/// A lost receiver that has taken so many sealed words in a row hands out again.
+pub(crate) const CATCHES_UP: u8 = 17;
+
+/// The longest row of a lost receiver.
+const LAST_ROW: u8 = CATCHES_UP - 1;
 
 /// Where a receiver stands.
 #[derive(Clone, Copy, PartialEq, Eq, Debug)]
@@ -87,9 +94,9 @@ impl fmt::Display for Verdict {
 /// open ones too; only sealed words add to its row.
 #[tactic(auto, unfolding(crate::specs::Receiving::row_after, crate::specs::Receiving::with_row))]
 pub(crate) fn decide(reception: Reception, event: Event) -> (Reception, Release)
-    requires { row_of reception ≤ 16 }
+    requires { row_of reception < catches_up }
     ensures value { result ≡ decided reception event }
-    ensures row { row_of result.0 ≤ 16 }
+    ensures row { row_of result.0 < catches_up }
 {
     match (reception, event) {
         (_, Event::Begin) => (Reception::Whole, Release::HandOut),
@@ -100,8 +107,10 @@ pub(crate) fn decide(reception: Reception, event: Event) -> (Reception, Release)
         }
         (Reception::Whole, Event::Word(_)) => (Reception::Whole, Release::HandOut),
         (Reception::Caught, Event::Word(_)) => (Reception::Caught, Release::HandOut),
-        (Reception::Lost(16), Event::Word(0xFFFF)) => (Reception::Caught, Release::Withhold(17)),
-        (Reception::Lost(row), Event::Word(0xFFFF)) => {
+        (Reception::Lost(LAST_ROW), Event::Word(SEALED)) => {
+            (Reception::Caught, Release::Withhold(CATCHES_UP))
+        }
+        (Reception::Lost(row), Event::Word(SEALED)) => {
             (Reception::Lost(row + 1), Release::Withhold(row + 1))
         }
         (Reception::Lost(_), Event::Word(_)) => (Reception::Lost(0), Release::Withhold(0)),

@@ -9,6 +9,9 @@ use crate::engine::Engine;
 use crate::issuer::Nonce;
 use sss::{Coefficient, Fault, KeyedFunction};
 
+/// The most words that a message has.
+pub const LONGEST: u32 = 65_536;
+
 /// A sealer with no message open.
 #[derive(Drop)]
 pub struct ReadySealer<K, C> {
@@ -52,7 +55,7 @@ impl<K: KeyedFunction, C: Coefficient> OpenMessage<K, C> {
     pub fn word(&mut self, mask: u16, plain: u16) -> Result<u16, Fault>
         ensures { Seals K.KeyedFunction C.Coefficient self.old mask plain result self.new }
     {
-        if self.words >= 65536 {
+        if self.words >= LONGEST {
             return Err(Fault::Full);
         }
         self.words += 1;

@@ -9,7 +9,8 @@ use Rattle.std.specs.List.{filter_map}
 use Rattle.std.specs.List.{AllByRecursion as Every}
 use Rattle.sss.specs.Bytes.{Octets, bytes_of_words}
 use Rattle.sss.proofs.Bytes.{respelled}
-use Rattle.sss.specs.Cipher.{OneToOne, State, Word, all_taken, begun, message_tag, opened_message, sealed_message, plain_word, plain_words, tag as tag_of, taken, wire_word, wire_words, words_of, nonce_fits}
+use Rattle.sss.specs.Cipher.{OneToOne, BothRegisters, Word, all_taken, begun, message_tag, opened_message, sealed_message, plain_word, plain_words, tag as tag_of, taken, wire_word, wire_words, words_of, nonce_fits}
+use Rattle.sss.specs.Directions.{text_of}
 use Rattle.sss.specs.declared.message.MaskedWord.{MaskedWord}
 use Rattle.link.specs.Ends.{Ends, ReceiverState, SealerState, in_message, made, one_call, ready, receiver_made, sealer_made}
 use Rattle.link.specs.Issuing.{nonce_bytes}
@@ -32,14 +33,14 @@ use Rattle.link.specs.declared.reception.Reception.TheVariants.{Whole}
 use Rattle.link.specs.declared.reception.Verdict.TheVariants.{Agrees, Differs}
 use Rattle.sss.specs.declared.fault.Fault.TheVariants.{Nonce as UnfitNonce, TagDiffers}
 use Rattle.link.proofs.Calls.{bytes_fit, word_sealed}
-use Rattle.link.proofs.Received.{Sized, WireWord, begun_sized}
+use Rattle.link.proofs.Received.{every_text, Sized, WireWord, begun_sized}
 use Rattle.link.proofs.Sealing.{nonce_below}
-use Rattle.message.specs.Buffers.{due_tag, plain_bytes, sealed_tag, text_of, wire_bytes, words_under}
+use Rattle.message.specs.Buffers.{due_tag, plain_bytes, sealed_tag, wire_bytes, words_under}
 use Rattle.message.specs.Laws.{LikeReceiver, LikeSealer, OpenLaws, ReceiverAdds, receiver_calls, receiver_entries, sealer_calls, sealer_entries}
 use Rattle.message.specs.Outcomes.{CallAnswer, OpenOutcome, left_by_open, left_by_seal, open_outcome, seal_outcome}
 use Rattle.message.proofs.Buffers.{length-words_under}
 use Rattle.message.proofs.Checked.{lengths_fit, nonce_held, not_same}
-use Rattle.message.proofs.Messages.{all_taken_sized, every_text, plains_fit, tag_words, wires_fit, words_again, words_under_fit}
+use Rattle.message.proofs.Messages.{all_taken_sized, plains_fit, tag_words, wires_fit, words_again, words_under_fit}
 use Rattle.message.proofs.Returned.{back_again, front_is, length-plain_bytes, length-wire_bytes, opening_well, refused_tag, seal_told, well_exactly}
 
 -- One end by itself, with its entries.
@@ -74,7 +75,7 @@ module _ (f A f' A' : ℕ → ℕ) where
 
 module _ (f A : ℕ → ℕ) where
   -- The words of a message, sealed one after another.
-  words_sealed : (k : ℕ) (g : State) (es : List SealerEntry) (ws : List MaskedWord) (rest : List (SealerCall Nonce)) → k + length ws ≤ 65536 →
+  words_sealed : (k : ℕ) (g : BothRegisters) (es : List SealerEntry) (ws : List MaskedWord) (rest : List (SealerCall Nonce)) → k + length ws ≤ 65536 →
       fold (sealer_step f A) (in_message k g, es) (map (λ w. on_sealer.Word w.mask w.text) ws ++ rest) ≡
       fold (sealer_step f A) (in_message (k + length ws) (all_taken f A g ws), es ++ sealed_entries ws (map text_of (wire_words f A g ws))) rest
   unfolding all_taken wire_words
@@ -82,7 +83,7 @@ module _ (f A : ℕ → ℕ) where
       let same : k ≡ k + 0 = omega arith in
       (λ j. fold (sealer_step f A) (in_message (same j) g, sym (append-nil es) j) rest)
   words_sealed k g es (w ∷ ws) rest few =
-      let g' : State = taken f A g w.mask w.text in
+      let g' : BothRegisters = taken f A g w.mask w.text in
       let wire : ℕ = wire_word f g w.mask w.text in
       let e : SealerEntry = sealer.Sealed w.mask w.text wire in
       let made : (in_message (k + 1) g', e) ≡ sealer_made f A (in_message k g) (on_sealer.Word w.mask w.text) =
@@ -93,14 +94,14 @@ module _ (f A : ℕ → ℕ) where
       (λ j. fold (sealer_step f A) (in_message (count j) (all_taken f A g' ws), append_assoc es (e ∷ []) (sealed_entries ws (map text_of (wire_words f A g' ws))) j) rest)
 
   -- The words of a message, taken by a whole receiver one after another.
-  words_taken : (g : State) (es : List ReceiverEntry) (ms : List MaskedWord) (rest : List ReceiverCall) →
+  words_taken : (g : BothRegisters) (es : List ReceiverEntry) (ms : List MaskedWord) (rest : List ReceiverCall) →
       fold (receiver_step f A) (record { reception = Whole; registers = g }, es) (map (λ w. on_receiver.Word w.mask w.text) ms ++ rest) ≡
       fold (receiver_step f A) (record { reception = Whole; registers = all_taken f A g (plain_words f A g ms) }, es ++ received_entries ms (map text_of (plain_words f A g ms))) rest
   unfolding all_taken plain_words receiver_made
   words_taken g es [] rest = (λ j. fold (receiver_step f A) (record { reception = Whole; registers = g }, sym (append-nil es) j) rest)
   words_taken g es (m ∷ ms) rest =
       let p : ℕ = plain_word f g m.mask m.text in
-      let g' : State = taken f A g m.mask p in
+      let g' : BothRegisters = taken f A g m.mask p in
       let e : ReceiverEntry = receiver.Received m.mask m.text (Reading p) in
       words_taken g' (es ++ e ∷ []) ms rest ∙
       (λ j.
@@ -109,12 +110,12 @@ module _ (f A : ℕ → ℕ) where
       rest)
 
   -- What a ready sealer notes of a whole message.
-  sealer_notes : (g₀ : State) (es : List SealerEntry) (n : Nonce) (ws : List MaskedWord) → length ws ≤ 65536 →
-      let g : State = begun f A (nonce_bytes n) in
+  sealer_notes : (g₀ : BothRegisters) (es : List SealerEntry) (n : Nonce) (ws : List MaskedWord) → length ws ≤ 65536 →
+      let g : BothRegisters = begun f A (nonce_bytes n) in
       (fold (sealer_step f A) (ready g₀, es) (sealer_calls n ws)).1 ≡ es ++ sealer_entries (nonce_bytes n) ws (map text_of (wire_words f A g ws)) (tag_of f (all_taken f A g ws))
   unfolding sealer_made
   sealer_notes g₀ es n ws few =
-      let g : State = begun f A (nonce_bytes n) in
+      let g : BothRegisters = begun f A (nonce_bytes n) in
       let b : List SealerEntry = sealer.Begun (nonce_bytes n) ∷ [] in
       let ws' : List SealerEntry = sealed_entries ws (map text_of (wire_words f A g ws)) in
       let t : List SealerEntry = sealer.Finished (tag_of f (all_taken f A g ws)) ∷ [] in
@@ -123,13 +124,13 @@ module _ (f A : ℕ → ℕ) where
 
   -- What a receiver notes of one.
   receiver_notes : (s₀ : ReceiverState) (es : List ReceiverEntry) (v : Vec ℕ Global) (ms : List MaskedWord) (t : List ℕ) → nonce_fits (vec_items v) ≡ true →
-      let g : State = begun f A (vec_items v) in
+      let g : BothRegisters = begun f A (vec_items v) in
       let ps : List MaskedWord = plain_words f A g ms in
       (fold (receiver_step f A) (s₀, es) (receiver_calls v ms t)).1 ≡
       es ++ receiver_entries v ms (map text_of ps) t (cond (bytes_eq t (tag_of f (all_taken f A g ps))) Agrees Differs)
   unfolding receiver_made
   receiver_notes s₀ es v ms t fits =
-      let g : State = begun f A (vec_items v) in
+      let g : BothRegisters = begun f A (vec_items v) in
       let ps : List MaskedWord = plain_words f A g ms in
       let b : List ReceiverEntry = receiver.Begun v ∷ [] in
       let ms' : List ReceiverEntry = received_entries ms (map text_of ps) in

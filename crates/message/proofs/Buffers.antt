@@ -1,20 +1,15 @@
 -- The words of a message, read from its buffers and written into them.
 use Rattle.std.proofs.Common.{◌≡◌, ℕ, zero, suc, ◌+◌, ◌*◌, ◌/◌, ◌%◌, ◌<◌, List, [], ◌∷◌, ◌++◌, length, get_or, set, map, drop, refl, sym, ap, ◌∙◌, arith}
-use Rattle.std.specs.List.{flat_map}
 use Rattle.sss.specs.Bytes.{Octets, bytes_of_words}
 use Rattle.sss.specs.Cipher.{words_of}
-use Rattle.sss.specs.Directions.{with_text}
+use Rattle.sss.specs.Directions.{text_of, with_text}
 use Rattle.sss.specs.declared.message.MaskedWord.{MaskedWord}
-use Rattle.sss.proofs.Bytes.{length-words_of, respelled, word_at}
-use Rattle.message.specs.Buffers.{written_over, masked_words, text_bytes, text_of, words_under}
+use Rattle.sss.proofs.Bytes.{length-words_of, pair_at, respelled, word_at}
+use Rattle.message.specs.Buffers.{written_over, masked_words, text_bytes, words_under}
 
 -- The word at a place, by its mask and its text.
 abbrev pub word_of : (mask text : ℕ) → MaskedWord
 word_of mask text = record { mask = mask; text = text }
-
--- The word that two bytes make at a place of a buffer.
-abbrev pub pair_at : List ℕ → ℕ → ℕ
-pair_at bs i = get_or bs (2 * i) 0 + get_or bs (2 * i + 1) 0 * 256
 
 masked_at : (ks ts : List ℕ) (i : ℕ) (d : MaskedWord) → i < length ks → i < length ts → get_or (masked_words ks ts) i d ≡ word_of (get_or ks i 0) (get_or ts i 0)
 masked_at [] ts i d h l = absurd (omega arith)
@@ -92,17 +87,6 @@ octets_put (x ∷ bs) zero b h below zero = below
 octets_put (x ∷ bs) zero b h below (suc j) = h (suc j)
 octets_put (x ∷ bs) (suc i) b h below zero = h zero
 octets_put (x ∷ bs) (suc i) b h below (suc j) = octets_put bs i b (λ k. h (suc k)) below j
-
--- Lists that are what a function makes of each element, one after another.
-pub all_made : (h : ℕ → List ℕ) (xs : List ℕ) (ys : List (List ℕ)) → length ys ≡ length xs → ((i : ℕ) → i < length xs → get_or ys i [] ≡ h (get_or xs i 0)) →
-    flat_map (λ (y : List ℕ). y) ys ≡ flat_map h xs
-all_made h [] [] e each = refl
-all_made h [] (y ∷ ys) e each = absurd (omega arith)
-all_made h (x ∷ xs) [] e each = absurd (omega arith)
-all_made h (x ∷ xs) (y ∷ ys) e each =
-    let first : y ≡ h x = each 0 (omega arith) in
-    let rest : flat_map (λ (y : List ℕ). y) ys ≡ flat_map h xs = all_made h xs ys (omega arith) (λ i l. each (suc i) (omega arith)) in
-    (λ j. first j ++ rest j)
 
 -- A buffer whose front was overwritten begins with what was written.
 pub begun_with : (buffer : List ℕ) {n : ℕ} {bytes bytes' : List ℕ} → bytes' ≡ bytes → length bytes' ≡ n → bytes' ++ drop n buffer ≡ written_over bytes buffer

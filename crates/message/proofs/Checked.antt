@@ -10,7 +10,7 @@ use Rattle.sss.specs.Cipher.{NonceFits, nonce_fits}
 use Rattle.sss.proofs.Refusals.{nonce_fits_false, nonce_fits_true}
 use Rattle.message.proofs.Buffers.{begun_with}
 use Rattle.message.specs.Buffers.{written_over, due_tag, plain_bytes, sealed_tag, wire_bytes}
-use Rattle.message.specs.Checks.{LengthsFit, first_failed, length_checks, open_fault, seal_fault}
+use Rattle.message.specs.Checks.{LengthsFit, first_failed, length_checks, longest_bytes, open_fault, seal_fault}
 use Rattle.message.specs.Outcomes.{OpenOutcome, OpensOrRefuses, SealOutcome, left_by_open, left_by_seal, open_outcome, refused_or, seal_outcome, tag_outcome}
 
 -- What comparing bytes tells.
@@ -40,14 +40,14 @@ held false rest fault h = absurd cc
 pub lengths_fit : (masks input output tag : List ℕ) → seal_fault masks input output tag ≡ None → LengthsFit (length masks) (length input) (length output) (length tag)
 unfolding seal_fault
 lengths_fit masks input output tag h =
-    let (input-fits, h₁) = held (length input % 2 == 0 && nat_le (length input) 131072) _ _ h in
+    let (input-fits, h₁) = held (length input % 2 == 0 && nat_le (length input) longest_bytes) _ _ h in
     let (masks-fit, h₂) = held (length masks == length input) _ _ h₁ in
     let (output-fits, h₃) = held (nat_le (length input) (length output)) _ _ h₂ in
     let (tag-fits, h₄) = held (length tag == 16) _ _ h₃ in
     let (even, most) = and_parts _ _ input-fits in
     record {
       even = eqb-true (length input % 2) 0 even;
-      most = leb-true (length input) 131072 most;
+      most = leb-true (length input) longest_bytes most;
       mask_each = eqb-true (length masks) (length input) masks-fit;
       room = leb-true (length input) (length output) output-fits;
       sixteen = eqb-true (length tag) 16 tag-fits;
@@ -78,7 +78,7 @@ pub no_tag_fault : (nonce masks input output tag : List ℕ) → open_fault nonc
 unfolding open_fault
 no_tag_fault nonce masks input output tag h =
     let h₁ = before_tag (nonce_fits nonce) _ Nonce (λ e. cc) h in
-    let h₂ = before_tag (length input % 2 == 0 && nat_le (length input) 131072) _ Input (λ e. cc) h₁ in
+    let h₂ = before_tag (length input % 2 == 0 && nat_le (length input) longest_bytes) _ Input (λ e. cc) h₁ in
     let h₃ = before_tag (length masks == length input) _ Masks (λ e. cc) h₂ in
     let h₄ = before_tag (nat_le (length input) (length output)) _ Output (λ e. cc) h₃ in
     let h₅ = before_tag (length tag == 16) None TagLength (λ e. cc) h₄ in

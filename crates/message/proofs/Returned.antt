@@ -1,19 +1,21 @@
 -- Open after seal, and exactly when open answers well.
-use Rattle.std.proofs.Common.{◌≡◌, ℕ, ◌*◌, ◌%◌, ◌<◌, Bool, false, cond, List, [], ◌∷◌, length, replicate, take, drop, Option, Some, None, Ok, Err, refl, inl, inr, sym, ap, ◌∙◌, arith, ◌≢◌}
+use Rattle.std.proofs.Common.{◌≡◌, ℕ, ◌*◌, ◌%◌, ◌<◌, Bool, false, cond, List, [], length, map, replicate, take, drop, Option, Some, None, Ok, Err, refl, inl, inr, sym, ap, ◌∙◌, arith, ◌≢◌}
 use Rattle.std.specs.List.{AllByRecursion as Every}
 use Rattle.std.specs.Str.{bytes_eq}
 use Rattle.std.proofs.lemmas.Bool.{and_from, cases_Bool, eq-eqb, le-leb}
-use Rattle.std.proofs.lemmas.List.{take-append-le, take_all}
+use Rattle.std.proofs.lemmas.List.{length-map, take-append-le, take_all}
 use Rattle.std.proofs.lemmas.Slice.Eq.{bytes_eq-Decides}
 use Rattle.sss.specs.Bytes.{Octets, bytes_of_words}
 use Rattle.sss.specs.Cipher.{OneToOne, begun, message_tag, opened_message, sealed_message, tag, all_taken}
+use Rattle.sss.specs.Directions.{text_of}
 use Rattle.sss.specs.declared.message.MaskedWord.{MaskedWord}
 use Rattle.sss.specs.declared.fault.Fault.{Fault}
 use Rattle.sss.specs.declared.fault.Fault.TheVariants.{TagDiffers}
+use Rattle.sss.proofs.Bytes.{length-bytes_of_words}
 use Rattle.sss.proofs.Returned.{message_back}
 use Rattle.link.proofs.Received.{begun_sized}
 use Rattle.message.specs.Buffers.{written_over, due_tag, plain_bytes, sealed_tag, text_bytes, wire_bytes, words_under}
-use Rattle.message.specs.Checks.{LengthsFit, open_fault, seal_fault}
+use Rattle.message.specs.Checks.{LengthsFit, longest_bytes, open_fault, seal_fault}
 use Rattle.message.specs.Laws.{BackAgain, WellExactly}
 use Rattle.message.specs.Outcomes.{CallAnswer, OpenOutcome, SealOutcome, left_by_open, left_by_seal, open_outcome, seal_outcome, tag_outcome}
 use Rattle.message.proofs.Buffers.{bytes_under, length-words_under}
@@ -25,20 +27,14 @@ pub lengths_pass : (masks input output tag : List ℕ) → LengthsFit (length ma
 unfolding seal_fault
 lengths_pass masks input output tag h =
     rw (
-      and_from _ _ (eq-eqb (length input % 2) 0 h.even) (le-leb (length input) 131072 h.most),
+      and_from _ _ (eq-eqb (length input % 2) 0 h.even) (le-leb (length input) longest_bytes h.most),
       eq-eqb (length masks) (length input) h.mask_each,
       le-leb (length input) (length output) h.room,
       eq-eqb (length tag) 16 h.sixteen,
     ) refl
 
--- Two bytes a word.
-length-bytes : (ws : List ℕ) → length (bytes_of_words ws) ≡ 2 * length ws
-length-bytes [] = refl
-length-bytes (w ∷ ws) = let e = length-bytes ws in omega arith
-
 length-texts : (ws : List MaskedWord) → length (text_bytes ws) ≡ 2 * length ws
-length-texts [] = refl
-length-texts (w ∷ ws) = let e = length-texts ws in omega arith
+length-texts ws = length-bytes_of_words (map text_of ws) ∙ omega (arith, length-map ws text_of)
 
 -- The front of a buffer that begins with bytes is these bytes.
 pub front_is : (bytes buffer : List ℕ) (n : ℕ) → length bytes ≡ n → take n (written_over bytes buffer) ≡ bytes
@@ -50,7 +46,7 @@ unfolding sealed_tag message_tag
 length-sealed_tag f A nonce masks plain =
     let g = all_taken f A (begun f A nonce) (words_under masks plain) in
     let e = length-tag f g in
-    length-bytes (tag f g) ∙ omega arith
+    length-bytes_of_words (tag f g) ∙ omega arith
 
 module _ (f A : ℕ → ℕ) where
   -- What a good answer of seal tells.

@@ -2,6 +2,7 @@
 use Rattle.std.specs.Prelude.{ℕ, List, [], ◌∷◌, ◌++◌, map, length, drop}
 use Rattle.sss.specs.Bytes.{bytes_of_words}
 use Rattle.sss.specs.Cipher.{message_tag, opened_message, sealed_message, words_of}
+use Rattle.sss.specs.Directions.{text_of}
 use Rattle.sss.specs.declared.message.MaskedWord.{MaskedWord}
 
 -- Each text with its mask.
@@ -10,13 +11,11 @@ masked_words [] ts = []
 masked_words (k ∷ ks) [] = []
 masked_words (k ∷ ks) (t ∷ ts) = record { mask = k; text = t } ∷ masked_words ks ts
 
--- The words of a message, by the bytes of its masks and those of its texts; and the bytes of the texts of words.
+-- The words of a message, by the bytes of its masks and those of its texts.
 abbrev pub words_under : (masks texts : List ℕ) → List MaskedWord
 words_under masks texts = masked_words (words_of masks) (words_of texts)
 
-abbrev pub text_of : MaskedWord → ℕ
-text_of w = w.text
-
+-- The bytes of the texts of words.
 abbrev pub text_bytes : List MaskedWord → List ℕ
 text_bytes ws = bytes_of_words (map text_of ws)
 

@@ -2,7 +2,7 @@
 use Rattle.std.specs.Prelude.{◌≡◌, ℕ, ◌≤◌, ◌↔◌, List, [], ◌∷◌, ◌++◌, map, zip, length, take, filter_map, fold, None, Ok, Err, Vec, vec_items}
 use Rattle.std.specs.declared.alloc.Global.{Global}
 use Rattle.sss.specs.Bytes.{Octets}
-use Rattle.sss.specs.Cipher.{NonceFits, State, words_of}
+use Rattle.sss.specs.Cipher.{NonceFits, BothRegisters, words_of}
 use Rattle.sss.specs.declared.message.MaskedWord.{MaskedWord}
 use Rattle.sss.specs.declared.fault.Fault.TheVariants.{TagDiffers}
 use Rattle.link.specs.Ends.{Ends, one_call, ready}
@@ -68,7 +68,7 @@ module _ (f A : ℕ → ℕ) where
   -- takes the same nonce, masks and plaintexts, wherever the run stands and whatever g and B the receiver works with.
   abbrev pub LikeSealer : Nonce → (masks input : List ℕ) → CallAnswer → (output' tag' : List ℕ) → Type 0
   LikeSealer n masks input answer output' tag' =
-      answer ≡ Ok tt → (g B : ℕ → ℕ) (h : Ends × List Entry) (registers : State) → h.0.sealer ≡ ready registers →
+      answer ≡ Ok tt → (g B : ℕ → ℕ) (h : Ends × List Entry) (registers : BothRegisters) → h.0.sealer ≡ ready registers →
       (calls : List Call) → filter_map sealer_call calls ≡ sealer_calls n (words_under masks input) →
       SealerAdds f A g B h calls (sealer_entries (nonce_bytes n) (words_under masks input) (words_of (take (length input) output')) (words_of tag'))
 

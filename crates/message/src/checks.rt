@@ -5,8 +5,8 @@ ghost use Rattle.message.specs.Checks.{LengthsFit, open_fault, seal_fault};
 
 use sss::{Fault, refuse_unfit_nonce};
 
-/// The most bytes that a message has: 65,536 words.
-pub const LONGEST: usize = 131_072;
+/// The most bytes that a message has: two for each of the most words that it has on the link.
+pub const LONGEST: usize = 2 * link::LONGEST as usize;
 
 /// Looks at the nonce first, and then at the lengths.
 pub(crate) fn check_opening(

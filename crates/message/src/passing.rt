@@ -5,7 +5,7 @@ ghost use Rattle.sss.specs.Bytes.{Octets, bytes_of_words};
 ghost use Rattle.sss.specs.Cipher.{NonceFits, begun, tag};
 ghost use Rattle.message.specs.Buffers.{text_bytes, words_under};
 
-use sss::{Coefficient, Direction, KeyedFunction, MaskedWord, Registers};
+use sss::{Coefficient, Direction, KeyedFunction, MaskedWord, Registers, bytes_of_tag};
 
 /// Passes a message through new registers, each word under its mask, and puts what the words become in their place. Answers the bytes of its tag.
 pub(crate) fn pass_message<D: Direction, K: KeyedFunction, C: Coefficient>(
@@ -25,7 +25,7 @@ pub(crate) fn pass_message<D: Direction, K: KeyedFunction, C: Coefficient>(
     // A nonce that fits is never refused, and the checker proves that this does not stop.
     registers.begin(f, a, nonce).unwrap();
     pass_bytes::<D, K, C>(&mut registers, f, a, masks, bytes);
-    tag_bytes(registers.close(f))
+    bytes_of_tag(registers.close(f))
 }
 
 /// Takes the words of a buffer into both registers, each under its mask, and puts what they become in their place.
@@ -51,14 +51,4 @@ fn pass_bytes<D: Direction, K: KeyedFunction, C: Coefficient>(
         bytes[2 * i] = low;
         bytes[2 * i + 1] = high;
     }
-}
-
-/// The bytes of a tag, the low byte of each word first.
-fn tag_bytes(words: [u16; 8]) -> [u8; 16]
-    ensures { result ≡ bytes_of_words words }
-{
-    let pairs = words.map(u16::to_le_bytes);
-    let mut bytes = [0; 16];
-    bytes.copy_from_slice(pairs.as_flattened());
-    bytes
 }

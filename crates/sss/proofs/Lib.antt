@@ -1,9 +1,10 @@
 pub mod Words
 pub mod Bytes
+pub mod Arrays
 pub mod OneToOne
 pub mod Windows
 pub mod Asked
-pub mod States
+pub mod BothRegisters
 pub mod Left
 pub mod Beginning
 pub mod Closing

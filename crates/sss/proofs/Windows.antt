@@ -1,5 +1,6 @@
 -- The sixteen older words of a register, seen through a window on a longer list, and the newest behind them.
-use Rattle.std.proofs.Common.{◌≡◌, ℕ, zero, suc, ◌+◌, ◌<◌, ◌≤◌, List, [], ◌∷◌, ◌++◌, length, get_or, take, drop, set, sym, refl, ap, ◌∙◌, arith}
+use Rattle.std.proofs.Common.{◌≡◌, ℕ, ◌+◌, ◌<◌, ◌≤◌, List, [], ◌∷◌, ◌++◌, length, get_or, take, drop, set, sym, ap, ◌∙◌, arith}
+use Rattle.std.proofs.Math.Seq.{take-set-lt}
 use Rattle.std.proofs.lemmas.List.{get_or-take, get_or-drop, get_or_append_left, get_or-append_right, set-append_left, set-append_right, drop-set-add, take_more_set, drop-take, drop-drop, drop-append-le, length-take, length-drop}
 
 -- The window that begins at s, and the register's words.
@@ -22,16 +23,10 @@ view_newest s xs newest long = get_or-append_right (window s xs) (newest ∷ [])
 pub view_newest_put : (s : ℕ) (xs : List ℕ) (newest w : ℕ) → s + 16 ≤ length xs → view s xs w ≡ set (view s xs newest) 16 w
 view_newest_put s xs newest w long = sym (set-append_right (window s xs) (newest ∷ []) 16 16 w (window_length s xs long) (omega arith))
 
-take_set : (n : ℕ) (xs : List ℕ) (i w : ℕ) → take n (set xs i w) ≡ set (take n xs) i w
-take_set zero xs i w = refl
-take_set (suc n) [] i w = refl
-take_set (suc n) (x ∷ xs) zero w = refl
-take_set (suc n) (x ∷ xs) (suc i) w = ap {B = List ℕ} (λ ys. x ∷ ys) (take_set n xs i w)
-
 pub view_put : (s : ℕ) (xs : List ℕ) (newest i w : ℕ) → s + 16 ≤ length xs → i < 16 →
     view s (set xs (s + i) w) newest ≡ set (view s xs newest) i w
 view_put s xs newest i w long h =
-    ap (λ (ys : List ℕ). take 16 ys ++ newest ∷ []) (drop-set-add s xs i w) ∙ ap (λ (ys : List ℕ). ys ++ newest ∷ []) (take_set 16 (drop s xs) i w) ∙
+    ap (λ (ys : List ℕ). take 16 ys ++ newest ∷ []) (drop-set-add s xs i w) ∙ ap (λ (ys : List ℕ). ys ++ newest ∷ []) (take-set-lt 16 (drop s xs) i w h) ∙
     sym (set-append_left (window s xs) (newest ∷ []) i w (omega (arith, window_length s xs long)))
 
 -- The newest word goes into the list, the window moves on, and another word is the newest.

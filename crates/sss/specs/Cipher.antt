@@ -17,10 +17,11 @@ Words xs = (i : ℕ) → Word (slice_index xs i)
 unfoldable pub plus : ℕ → ℕ → ℕ
 plus a b = (a + b) % 65536
 
--- A word rotated left by i bits, and rotated by 8, which is the same to either side.
+-- A word rotated left by i bits.
 unfoldable pub rotate : ℕ → ℕ → ℕ
 rotate i a = a * 2 ^ i % 65536 + a / 2 ^ (16 - i)
 
+-- A word rotated by 8 bits, which is the same to either side.
 abbrev pub rot8 : ℕ → ℕ
 rot8 a = rotate 8 a
 
@@ -65,6 +66,7 @@ key_word i (k ∷ ks) b =
 unfoldable pub key_entry : List ℕ → ℕ → ℕ
 key_entry key x = bit_xor (key_byte key x) x * 256 + key_word 0 key x % 256
 
+-- The table of a key: its 256 entries.
 unfoldable pub key_table : List ℕ → List ℕ
 key_table key = map (key_entry key) (range_with_len 0 256)
 
@@ -76,10 +78,11 @@ KeyFits key = (1 ≤ length key) × (length key ≤ 16)
 unfoldable pub product : ℕ → ℕ
 product a = bit_xor (a % 256 * 256) (slice_index products (a / 256))
 
--- The rule behind the table: bits are coefficients of powers of z, and z^16 is z^14 + z^12 + z^3 + z^2 + z + 1.
+-- The rule behind the table: bit i of a word stands for z^i, and z^16 is z^14 + z^12 + z^3 + z^2 + z + 1. A word times z:
 unfoldable pub times_z : ℕ → ℕ
 times_z a = cond (nat_lt a 32768) (a * 2) (bit_xor (a * 2) 0x1500F)
 
+-- And times z^n.
 unfoldable pub times_z_power : ℕ → ℕ → ℕ
 times_z_power zero a = a
 times_z_power (suc n) a = times_z_power n (times_z a)
@@ -103,11 +106,19 @@ unfoldable pub check_step : (ℕ → ℕ) → List ℕ → ℕ → List ℕ
 check_step A c M = drop 1 c ++ bit_xor (bit_xor (bit_xor M (A (slice_index c 0))) (slice_index c 4)) (slice_index c 15) ∷ []
 
 -- The two registers: r of the cipher, c of the check.
-pub record State : Type 0 where
+pub record BothRegisters : Type 0 where
   pub r : List ℕ
   pub c : List ℕ
 
--- ONE WORD with its mask. The mask's bits say to which bits the keystream is added on the wire.
+-- ONE WORD with its mask. The mask's bits say to which bits the keystream is added on the wire: to all bits of a sealed word, to none of an open
+-- one. Their masks:
+abbrev pub sealed_mask : ℕ
+sealed_mask = 0xFFFF
+
+abbrev pub open_mask : ℕ
+open_mask = 0
+
+-- A word on the wire from one that is not, and back, with the keystream word v.
 unfoldable pub masked : ℕ → ℕ → ℕ → ℕ
 masked mask v x = bit_xor x (bit_and mask v)
 
@@ -120,53 +131,59 @@ unfoldable pub ciphertext : (ℕ → ℕ) → List ℕ → ℕ → ℕ
 ciphertext f r p = bit_xor p (keystream f r)
 
 -- Both registers after a plaintext word p.
-unfoldable pub taken : (ℕ → ℕ) → (ℕ → ℕ) → State → ℕ → ℕ → State
+unfoldable pub taken : (ℕ → ℕ) → (ℕ → ℕ) → BothRegisters → ℕ → ℕ → BothRegisters
 taken f A g mask p =
     record { r = step f g.r (ciphertext f g.r p); c = check_step A g.c (mactext mask (keystream f g.r) p) }
 
--- The wire word of a plaintext word, and the plaintext word of a wire word.
-unfoldable pub wire_word : (ℕ → ℕ) → State → ℕ → ℕ → ℕ
+-- The wire word of a plaintext word.
+unfoldable pub wire_word : (ℕ → ℕ) → BothRegisters → ℕ → ℕ → ℕ
 wire_word f g mask p = masked mask (keystream f g.r) p
 
-unfoldable pub plain_word : (ℕ → ℕ) → State → ℕ → ℕ → ℕ
+-- The plaintext word of a wire word.
+unfoldable pub plain_word : (ℕ → ℕ) → BothRegisters → ℕ → ℕ → ℕ
 plain_word f g mask m = masked mask (keystream f g.r) m
 
--- TO BEGIN a message: both registers zero, then each nonce word in turn, then seventeen open words with plaintext 0.
-unfoldable pub zeroed : State
+-- TO BEGIN a message: both registers zero, then each nonce word in turn, then seventeen open words with plaintext 0. The registers of zero:
+unfoldable pub zeroed : BothRegisters
 zeroed = record { r = replicate 17 0; c = replicate 17 0 }
 
-unfoldable pub nonce_taken : (ℕ → ℕ) → (ℕ → ℕ) → State → ℕ → State
+-- The registers after one nonce word.
+unfoldable pub nonce_taken : (ℕ → ℕ) → (ℕ → ℕ) → BothRegisters → ℕ → BothRegisters
 nonce_taken f A g n = record { r = step f g.r n; c = check_step A g.c (bit_xor n (keystream f g.r)) }
 
-unfoldable pub nonces_taken : (ℕ → ℕ) → (ℕ → ℕ) → State → List ℕ → State
+-- The registers after some nonce words.
+unfoldable pub nonces_taken : (ℕ → ℕ) → (ℕ → ℕ) → BothRegisters → List ℕ → BothRegisters
 nonces_taken f A g [] = g
 nonces_taken f A g (n ∷ ns) = nonces_taken f A (nonce_taken f A g n) ns
 
-unfoldable pub open_zeros : (ℕ → ℕ) → (ℕ → ℕ) → ℕ → State → State
+-- The registers after n open words with plaintext 0.
+unfoldable pub open_zeros : (ℕ → ℕ) → (ℕ → ℕ) → ℕ → BothRegisters → BothRegisters
 open_zeros f A zero g = g
-open_zeros f A (suc n) g = open_zeros f A n (taken f A g 0 0)
+open_zeros f A (suc n) g = open_zeros f A n (taken f A g open_mask 0)
 
-unfoldable pub begun : (ℕ → ℕ) → (ℕ → ℕ) → List ℕ → State
+-- The registers once a message with this nonce is begun.
+unfoldable pub begun : (ℕ → ℕ) → (ℕ → ℕ) → List ℕ → BothRegisters
 begun f A nonce = open_zeros f A 17 (nonces_taken f A zeroed (words_of nonce))
 
 -- A nonce has an even number of bytes, at most 32.
 abbrev pub NonceFits : List ℕ → Type 0
 NonceFits nonce = (length nonce % 2 ≡ 0) × (length nonce ≤ 32)
 
--- The same as a test.
+-- Whether it does.
 abbrev pub nonce_fits : List ℕ → Bool
 nonce_fits nonce = length nonce % 2 == 0 && nat_le (length nonce) 32
 
--- TO CLOSE a message the check register is left alone. Each word p steps the cipher register with p ⊕ v.
+-- TO CLOSE a message the check register is left alone. Each word p steps the cipher register with p ⊕ v. The cipher register after one:
 unfoldable pub fed : (ℕ → ℕ) → List ℕ → ℕ → List ℕ
 fed f r p = step f r (ciphertext f r p)
 
+-- The cipher register after some.
 unfoldable pub all_fed : (ℕ → ℕ) → List ℕ → List ℕ → List ℕ
 all_fed f r [] = r
 all_fed f r (p ∷ ps) = all_fed f (fed f r p) ps
 
 -- The register that the tag is drawn from: 0 was fed, then c[16] down to c[0].
-unfoldable pub drawn_from : (ℕ → ℕ) → State → List ℕ
+unfoldable pub drawn_from : (ℕ → ℕ) → BothRegisters → List ℕ
 drawn_from f g = all_fed f (fed f g.r 0) (reverse g.c)
 
 -- The words that the register is stepped with as n zeros are fed.
@@ -174,35 +191,40 @@ unfoldable pub stepped : (ℕ → ℕ) → ℕ → List ℕ → List ℕ
 stepped f zero r = []
 stepped f (suc n) r = ciphertext f r 0 ∷ stepped f n (fed f r 0)
 
--- The tag: eight words. And the registers once it is drawn.
-unfoldable pub tag : (ℕ → ℕ) → State → List ℕ
+-- The tag: eight words.
+unfoldable pub tag : (ℕ → ℕ) → BothRegisters → List ℕ
 tag f g = stepped f 8 (drawn_from f g)
 
-unfoldable pub closed : (ℕ → ℕ) → State → State
+-- The registers once the tag is drawn.
+unfoldable pub closed : (ℕ → ℕ) → BothRegisters → BothRegisters
 closed f g = record { r = all_fed f (drawn_from f g) (replicate 8 0); c = g.c }
 
--- WHOLE MESSAGES, from a state on: the state after plaintext words, their wire words, and the plaintext words of wire words.
-unfoldable pub all_taken : (ℕ → ℕ) → (ℕ → ℕ) → State → List MaskedWord → State
+-- WHOLE MESSAGES. The registers after plaintext words, from given ones on.
+unfoldable pub all_taken : (ℕ → ℕ) → (ℕ → ℕ) → BothRegisters → List MaskedWord → BothRegisters
 all_taken f A g [] = g
 all_taken f A g (w ∷ ws) = all_taken f A (taken f A g w.mask w.text) ws
 
-unfoldable pub wire_words : (ℕ → ℕ) → (ℕ → ℕ) → State → List MaskedWord → List MaskedWord
+-- The wire words of plaintext words.
+unfoldable pub wire_words : (ℕ → ℕ) → (ℕ → ℕ) → BothRegisters → List MaskedWord → List MaskedWord
 wire_words f A g [] = []
 wire_words f A g (w ∷ ws) =
     record { mask = w.mask; text = wire_word f g w.mask w.text } ∷ wire_words f A (taken f A g w.mask w.text) ws
 
-unfoldable pub plain_words : (ℕ → ℕ) → (ℕ → ℕ) → State → List MaskedWord → List MaskedWord
+-- The plaintext words of wire words.
+unfoldable pub plain_words : (ℕ → ℕ) → (ℕ → ℕ) → BothRegisters → List MaskedWord → List MaskedWord
 plain_words f A g [] = []
 plain_words f A g (w ∷ ws) =
     let p : ℕ = plain_word f g w.mask w.text in
     record { mask = w.mask; text = p } ∷ plain_words f A (taken f A g w.mask p) ws
 
--- The wire words and the tag of a message, by its nonce, its masks and its plaintext words; the plaintext words, by its wire words.
+-- The wire words of a message, by its nonce, its masks and its plaintext words.
 unfoldable pub sealed_message : (ℕ → ℕ) → (ℕ → ℕ) → List ℕ → List MaskedWord → List MaskedWord
 sealed_message f A nonce ps = wire_words f A (begun f A nonce) ps
 
+-- The tag of a message, by the same.
 unfoldable pub message_tag : (ℕ → ℕ) → (ℕ → ℕ) → List ℕ → List MaskedWord → List ℕ
 message_tag f A nonce ps = tag f (all_taken f A (begun f A nonce) ps)
 
+-- The plaintext words of a message, by its nonce, its masks and its wire words.
 unfoldable pub opened_message : (ℕ → ℕ) → (ℕ → ℕ) → List ℕ → List MaskedWord → List MaskedWord
 opened_message f A nonce ms = plain_words f A (begun f A nonce) ms

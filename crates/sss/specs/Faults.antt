@@ -5,6 +5,7 @@ use Rattle.sss.specs.declared.fault.Fault.TheVariants.{Key, Table, Nonce, Exhaus
 use Rattle.sss.specs.declared.fault.Layer.{Layer}
 use Rattle.sss.specs.declared.fault.Layer.TheVariants as layer
 
+-- The number of each refusal.
 abbrev pub number_of : Fault → ℕ
 number_of Key = 1
 number_of Table = 2
@@ -21,7 +22,7 @@ number_of (CutOff place) = 12
 number_of (NoRoom place) = 13
 number_of TooLong = 14
 
--- The place on a tape where it was found, and 0 for one that comes from no tape.
+-- The place of each refusal: the offset on the tape where it was found, and 0 for one that comes from no tape.
 abbrev pub place_of : Fault → ℕ
 place_of Key = 0
 place_of Table = 0
@@ -38,6 +39,7 @@ place_of (CutOff place) = place
 place_of (NoRoom place) = place
 place_of TooLong = 0
 
+-- The layer of each refusal.
 abbrev pub layer_of : Fault → Layer
 layer_of Key = layer.Key
 layer_of Table = layer.Key

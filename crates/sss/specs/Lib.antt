@@ -5,5 +5,7 @@ pub mod Kept
 pub mod Asked
 pub mod Outcomes
 pub mod Laws
+pub mod Masks
 pub mod Directions
+pub mod Witnesses
 pub mod Faults

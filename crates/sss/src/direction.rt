@@ -1,8 +1,9 @@
 //! The two ways in which a message passes the registers: sealing and opening.
 ghost use Rattle.std.specs.Prelude.{◌≡◌, ℕ, List};
 ghost use Rattle.sss.specs.Asked.{Asked};
-ghost use Rattle.sss.specs.Cipher.{State, all_taken, plain_words, wire_words};
-ghost use Rattle.sss.specs.Directions.{Passes, after_opening, after_sealing, opened_text, opening_passes, sealed_text, sealing_passes};
+ghost use Rattle.sss.specs.Cipher.{BothRegisters, all_taken, plain_words, wire_words};
+ghost use Rattle.sss.specs.Directions.{Passes, after_opening, after_sealing, opened_text, sealed_text};
+ghost use Rattle.sss.specs.Witnesses.{opening_passes, sealing_passes};
 ghost use Rattle.sss.specs.declared.message.MaskedWord.{MaskedWord};
 
 use crate::coefficient::Coefficient;
@@ -13,16 +14,16 @@ use crate::registers::Registers;
 /// Which way a message passes the registers.
 pub trait Direction {
     /// The text that a word becomes.
-    ghost text: { (ℕ → ℕ) → State → MaskedWord → ℕ };
+    ghost text: { (ℕ → ℕ) → BothRegisters → MaskedWord → ℕ };
 
     /// Both registers after a word.
-    ghost after: { (ℕ → ℕ) → (ℕ → ℕ) → State → MaskedWord → State };
+    ghost after: { (ℕ → ℕ) → (ℕ → ℕ) → BothRegisters → MaskedWord → BothRegisters };
 
     /// What the words of a message become.
-    ghost words: { (ℕ → ℕ) → (ℕ → ℕ) → State → List MaskedWord → List MaskedWord };
+    ghost words: { (ℕ → ℕ) → (ℕ → ℕ) → BothRegisters → List MaskedWord → List MaskedWord };
 
     /// Both registers after the words of a message.
-    ghost last: { (ℕ → ℕ) → (ℕ → ℕ) → State → List MaskedWord → State };
+    ghost last: { (ℕ → ℕ) → (ℕ → ℕ) → BothRegisters → List MaskedWord → BothRegisters };
 
     /// Takes a word into both registers, and answers the text that it becomes.
     fn pass<K: KeyedFunction, C: Coefficient>(

@@ -19,7 +19,7 @@ pub enum Fault {
     Input,
     /// The masks of a whole message are not as long as its input.
     Masks,
-    /// The output of a whole message is shorter than its input.
+    /// The output of a whole message is shorter than its input, or a lent buffer than the listing that goes there.
     Output,
     /// The tag of a whole message, or the buffer for it, has not 16 bytes.
     TagLength,
@@ -35,7 +35,7 @@ pub enum Fault {
     TooLong,
 }
 
-/// The part of the product that a refusal comes from.
+/// Where a refusal comes from.
 #[derive(Clone, Copy, PartialEq, Eq, Debug)]
 pub enum Layer {
     /// Loading a key or a table.
@@ -48,7 +48,7 @@ pub enum Layer {
 
 impl Fault {
     /// The number that stands for this refusal in listings and for callers in other languages.
-    // The numbers are the product's own: a listing and a caller in C have no enum.
+    // Listings and callers in C have no enum.
     pub fn number(self) -> u8
         ensures { result ≡ number_of self }
     {
@@ -71,7 +71,7 @@ impl Fault {
     }
 
     /// The place on the tape, and 0 for a refusal that comes from no tape.
-    // That 0, and no `Option`, is the product's rule, for listings and for callers in C.
+    // That 0, and no `Option`, for listings and for callers in C.
     pub fn place(self) -> usize
         ensures { result ≡ place_of self }
     {

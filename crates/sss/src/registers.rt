@@ -2,13 +2,14 @@
 ghost use Rattle.std.specs.Prelude.{◌≡◌, reverse, bit_xor, MatchResult};
 ghost use Rattle.sss.specs.Asked.{Asked};
 ghost use Rattle.sss.specs.Cipher.{NonceFits, begun, closed, plain_word, tag, taken, wire_word, words_of, zeroed};
-ghost use Rattle.sss.specs.Cipher.{all_fed, check_step, mactext, nonce_taken, nonces_taken, open_zeros, step};
+ghost use Rattle.sss.specs.Cipher.{all_fed, check_step, mactext, nonce_taken, nonces_taken, open_zeros, sealed_mask, step};
 ghost use Rattle.sss.specs.Laws.{MactextFromWire, WordBack};
 ghost use Rattle.sss.specs.Outcomes.{TakesNonce};
 
 use crate::coefficient::Coefficient;
 use crate::fault::Fault;
 use crate::keyed::KeyedFunction;
+use crate::mask::{OPEN, SEALED};
 use crate::register::{CheckRegister, CipherRegister, Register};
 use std::marker::Model;
 
@@ -20,9 +21,9 @@ pub struct Registers {
 }
 
 impl Model for Registers {
-    ghost use Rattle.sss.specs.Cipher.{State};
+    ghost use Rattle.sss.specs.Cipher.{BothRegisters};
 
-    ghost Value = { State };
+    ghost Value = { BothRegisters };
 
     ghost view = { λ s. record { r = s.cipher; c = s.check } };
 }
@@ -129,7 +130,7 @@ impl Registers {
     ) -> u16
         ensures { Asked K.KeyedFunction f.old f.new (λ g. (result ≡ plain_word g self.old mask wire) × (self.new ≡ taken g (C.image a.now) self.old mask (plain_word g self.old mask wire)) × WordBack g (C.image a.now) self.old mask wire result self.new) }
     {
-        if mask == u16::MAX {
+        if mask == SEALED {
             self.open_sealed_word(f, a, wire)
         } else {
             self.open_masked_word(f, a, mask, wire)
@@ -154,7 +155,7 @@ impl Registers {
         a: &C,
         wire: u16,
     ) -> u16
-        ensures { Asked K.KeyedFunction f.old f.new (λ g. (result ≡ plain_word g self.old 65535 wire) × (self.new ≡ taken g (C.image a.now) self.old 65535 (plain_word g self.old 65535 wire))) }
+        ensures { Asked K.KeyedFunction f.old f.new (λ g. (result ≡ plain_word g self.old sealed_mask wire) × (self.new ≡ taken g (C.image a.now) self.old sealed_mask (plain_word g self.old sealed_mask wire))) }
     {
         let plain = wire ^ self.cipher.keystream(f);
         self.cipher.step(f, wire);
@@ -181,7 +182,7 @@ impl Registers {
 
     /// One plaintext word into both registers, where `v` is its keystream word.
     #[inline(always)]
-    #[tactic(auto, using(crate::proofs::Asked::asked_so, crate::proofs::States::same_state), unfolding(crate::specs::Cipher::mactext, crate::specs::Cipher::complement))]
+    #[tactic(auto, using(crate::proofs::Asked::asked_so, crate::proofs::BothRegisters::same_registers), unfolding(crate::specs::Cipher::mactext, crate::specs::Cipher::complement))]
     fn absorb<K: KeyedFunction, C: Coefficient>(
         &mut self,
         f: &mut K,
@@ -207,7 +208,7 @@ impl Registers {
     }
 
     /// One nonce word, as a sealed word that was received.
-    #[tactic(auto, using(crate::proofs::Asked::asked_then, crate::proofs::States::same_state), unfolding(crate::specs::Cipher::nonce_taken))]
+    #[tactic(auto, using(crate::proofs::Asked::asked_then, crate::proofs::BothRegisters::same_registers), unfolding(crate::specs::Cipher::nonce_taken))]
     fn take_nonce_word<K: KeyedFunction, C: Coefficient>(&mut self, f: &mut K, a: &C, word: u16)
         ensures { Asked K.KeyedFunction f.old f.new (λ g. self.new ≡ nonce_taken g (C.image a.now) self.old word) }
     {
@@ -221,7 +222,7 @@ impl Registers {
         ensures { Asked K.KeyedFunction f.old f.new (λ g. self.new ≡ open_zeros g (C.image a.now) 17 self.old) }
     {
         for _ in 0..17u8 {
-            let _ = self.seal_word(f, a, 0, 0);
+            let _ = self.seal_word(f, a, OPEN, 0);
         }
     }
 

@@ -1,8 +1,8 @@
 -- The item at a place of a tape, found or not.
-use Rattle.std.proofs.Common.{◌≡◌, ℕ, ◌+◌, ◌<◌, List, [], ◌∷◌, ◌++◌, length, get_or, replicate, take, drop, cond, ◌==◌, Some, refl, sym, ap, ◌∙◌, arith, take-append-drop}
+use Rattle.std.proofs.Common.{◌≡◌, ℕ, ◌+◌, ◌<◌, List, [], ◌++◌, length, get_or, replicate, take, drop, cond, ◌==◌, Some, refl, sym, ap, ◌∙◌, arith, take-append-drop}
 use Rattle.sss.specs.declared.Fault.{Fault}
 use Rattle.sss.specs.declared.Fault.TheVariants.{CutOff}
-use Rattle.sss.specs.Bytes.{bytes_of_words}
+use Rattle.sss.proofs.Bytes.{length-bytes_of_words}
 use Rattle.tape.specs.Format.{Ending, Ends, Fits, bytes_of, cut_off, fault_of}
 use Rattle.tape.specs.Items.{IsNext, part_of, place_of}
 use Rattle.tape.specs.declared.command.Command.{Command}
@@ -13,11 +13,6 @@ use Rattle.tape.proofs.Spelled.{fits, spelled}
 -- How many bytes a command has, by its command byte.
 abbrev pub size : ℕ → ℕ
 size b = cond (b == 0x4E) 7 (cond (b == 0x53) 3 (cond (b == 0x4F) 3 (cond (b == 0x50) 5 (cond (b == 0x42) 1 17))))
-
--- Two bytes a word.
-length-bytes_of_words : (ws : List ℕ) → length (bytes_of_words ws) ≡ length ws + length ws
-length-bytes_of_words [] = refl
-length-bytes_of_words (w ∷ ws) = let e = length-bytes_of_words ws in omega arith
 
 pub sized : (c : Command) → Fits c → length (bytes_of c) ≡ size (get_or (bytes_of c) 0 0)
 sized (Nonce nonce) h = omega (arith, h.0)

@@ -10,7 +10,7 @@ use Rattle.functions.specs.declared.coefficient.PrintedTable.{PrintedTable}
 use Rattle.functions.specs.declared.table.Filled.{Filled}
 use Rattle.functions.specs.declared.table.Table.{Table as FilledBy}
 use Rattle.link.specs.Ends.{ReceiverState, new_ends, receiving}
-use Rattle.link.specs.Meaning.{function_of}
+use Rattle.sss.specs.Asked.{function_of}
 use Rattle.link.specs.declared.receiver.Receiver.{Receiver}
 use Rattle.tape.specs.Format.{Ending, Ends, bytes_of, tape_of}
 use Rattle.tape.specs.Items.{IsNext, command_of, part_of, place_of}

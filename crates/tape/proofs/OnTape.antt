@@ -1,6 +1,7 @@
 -- Exactly the words of a tape are withheld that must be.
 use Rattle.std.proofs.Common.{ℕ, ◌+◌, List, [], ◌∷◌, ◌++◌, length, refl}
 use Rattle.std.specs.List.{AllByRecursion as Every}
+use Rattle.sss.specs.Cipher.{open_mask, sealed_mask}
 use Rattle.link.specs.Ends.{ReceiverState, new_ends, word_heard}
 use Rattle.link.specs.Law.{Withholds}
 use Rattle.link.specs.Log.{Heard, Stretch, begin, break, finish, marked, new}
@@ -34,8 +35,8 @@ module _ (f A : ℕ → ℕ) where
   command_stays : (ss : List Stretch) (s : ReceiverState) (place : ℕ) (c : Command) → Standing ss s.reception →
       Standing (command_noted c (heard_line f A s place c).1 ss) (heard_line f A s place c).0.reception
   command_stays ss s place (Nonce nonce) h = mark_stands (begin nonce) ss s.reception Whole (begin_stands nonce Whole refl) h
-  command_stays ss s place (Sealed wire) h = word_stays ss s place 65535 wire h
-  command_stays ss s place (Open wire) h = word_stays ss s place 0 wire h
+  command_stays ss s place (Sealed wire) h = word_stays ss s place sealed_mask wire h
+  command_stays ss s place (Open wire) h = word_stays ss s place open_mask wire h
   command_stays ss s place (Part mask wire) h = word_stays ss s place mask wire h
   command_stays ss s place Break h = mark_stands break ss s.reception (Lost 0) (other_stands break (Lost 0) refl (λ n e. cc)) h
   command_stays ss s place (Tag words) h = mark_stands finish ss s.reception (Lost 0) (other_stands finish (Lost 0) refl (λ n e. cc)) h

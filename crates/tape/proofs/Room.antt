@@ -4,7 +4,7 @@ use Rattle.std.proofs.lemmas.Bool.{cases_lt}
 use Rattle.std.proofs.lemmas.Fmt.{length-decimal-le}
 use Rattle.std.specs.Fmt.{decimal}
 use Rattle.std.specs.List.{AllByRecursion as Every}
-use Rattle.sss.specs.Cipher.{key_table, keyed, plain_word, product}
+use Rattle.sss.specs.Cipher.{key_table, keyed, open_mask, plain_word, product, sealed_mask}
 use Rattle.sss.specs.declared.Fault.TheVariants.{CutOff, Key, TooLong, UnknownCommand}
 use Rattle.link.specs.Ends.{ReceiverState, new_ends, tag_heard, word_heard}
 use Rattle.link.specs.Receiving.{answer_of, answer_text, decided, row_after, row_of, verdict_text, with_row}
@@ -13,7 +13,8 @@ use Rattle.link.specs.declared.reception.Reception.{Reception}
 use Rattle.link.specs.declared.reception.Reception.TheVariants.{Lost, Whole, Caught}
 use Rattle.link.specs.declared.reception.Verdict.{Verdict}
 use Rattle.link.specs.declared.reception.Verdict.TheVariants.{Agrees, Differs, Broken}
-use Rattle.tape.specs.Format.{Ending, Fits, at_end, bytes_of, cut_off, open_mask, sealed_mask, tape_of, unknown}
+use Rattle.link.proofs.Withheld.{row_within}
+use Rattle.tape.specs.Format.{Ending, Fits, at_end, bytes_of, cut_off, tape_of, unknown}
 use Rattle.tape.specs.Inputs.{KeyLoads, key_count, key_of, longest_input, tape_in}
 use Rattle.tape.specs.Lines.{line_text, text_of}
 use Rattle.tape.specs.Listing.{InputLines, ListingText}
@@ -28,10 +29,10 @@ use Rattle.tape.proofs.Finding.{sized}
 five_digits : (n : ℕ) → n ≤ longest_input → length (decimal n) ≤ 5
 five_digits n h = length-decimal-le 5 n (omega arith) (omega arith) (omega arith)
 
--- A word adds at most 1 to a receiver's row.
-row_within : (n mask : ℕ) → (row_after n mask ≤ n + 1) × (row_of (with_row (row_after n mask)) ≤ n + 1)
-unfolding row_after with_row
-row_within n mask = grind arith
+-- A receiver's row is at most the row that it came to.
+row_at_most : (n : ℕ) → row_of (with_row n) ≤ n
+unfolding with_row
+row_at_most n = grind arith
 
 -- A place, and what is said there.
 place_room : (place k : ℕ) (said : List ℕ) → place ≤ longest_input → length said ≤ k → length (decimal place ++ codes " " ++ said) ≤ 6 + k
@@ -44,7 +45,7 @@ answer_room Whole mask p h = (omega arith, omega arith)
 answer_room Caught mask p h = (omega arith, omega arith)
 answer_room (Lost n) mask p h =
     let r = row_within n mask in
-    (r.1, omega (arith, length-append (codes "withheld ") (decimal (row_after n mask)), five_digits (row_after n mask) (omega (arith, r.0))))
+    (omega (arith, r, row_at_most (row_after n mask)), omega (arith, length-append (codes "withheld ") (decimal (row_after n mask)), five_digits (row_after n mask) (omega (arith, r))))
 
 verdict_room : (v : Verdict) → length (verdict_text v) ≤ 7
 verdict_room Agrees = omega arith

@@ -10,7 +10,7 @@ use Rattle.tape.specs.declared.item.WordItem.TheVariants.{Sealed, Open, Part}
 use Rattle.sss.specs.Bytes.{Octets}
 use Rattle.sss.proofs.Bytes.{all_words, length-words_of, respelled, words_read}
 use Rattle.std.proofs.lemmas.List.{length-drop}
-use Rattle.link.proofs.Every.{every_place}
+use Rattle.link.proofs.Calls.{bytes_fit}
 
 -- One word, and two, by their places.
 one_cell : (ws : List ℕ) → length ws ≡ 1 → ws ≡ get_or ws 0 0 ∷ []
@@ -76,7 +76,7 @@ spelled (Tag t) = by_operands 0x54 t.bytes.now (operands t.bytes.now) t.command 
 
 -- And that command is one.
 pub fits : (i : Item) → Fits (command_of i)
-fits (Nonce n) = (omega (arith, length-drop 1 n.bytes.now, n.size), every_place (λ b. b < 256) (drop 1 n.bytes.now) 0 (λ i lt. octets_behind n.bytes.now n.octets i))
+fits (Nonce n) = (omega (arith, length-drop 1 n.bytes.now, n.size), bytes_fit (drop 1 n.bytes.now) (octets_behind n.bytes.now n.octets))
 fits (Word (Sealed w)) = word_of w.bytes.now w.octets 0
 fits (Word (Open w)) = word_of w.bytes.now w.octets 0
 fits (Word (Part w)) = (word_of w.bytes.now w.octets 0, word_of w.bytes.now w.octets 1)

@@ -17,13 +17,6 @@ bytes_of (Part mask wire) = 0x50 ∷ bytes_of_words (mask ∷ wire ∷ [])
 bytes_of Break = 0x42 ∷ []
 bytes_of (Tag words) = 0x54 ∷ bytes_of_words words
 
--- The masks that the commands of a sealed and of an open word stand for.
-abbrev pub sealed_mask : ℕ
-sealed_mask = 0xFFFF
-
-abbrev pub open_mask : ℕ
-open_mask = 0
-
 -- What the type of a command says: a nonce has six bytes, a tag has eight words, and each of these is a byte or a word.
 abbrev pub Fits : Command → Type 0
 Fits (Nonce nonce) = (length nonce ≡ 6) × Every (λ b. b < 256) nonce

@@ -1,8 +1,8 @@
 -- What an item says: the command that it is, read off its part of the tape.
 use Rattle.std.specs.Prelude.{◌≡◌, ℕ, List, ◌++◌, drop, slice_index, Option, Some, None, Result, Ok, Err}
-use Rattle.sss.specs.Cipher.{words_of}
+use Rattle.sss.specs.Cipher.{open_mask, sealed_mask, words_of}
 use Rattle.sss.specs.declared.Fault.{Fault}
-use Rattle.tape.specs.Format.{Ending, Ends, Fits, at_end, bytes_of, fault_of, open_mask, sealed_mask}
+use Rattle.tape.specs.Format.{Ending, Ends, Fits, at_end, bytes_of, fault_of}
 use Rattle.tape.specs.declared.command.Command.{Command}
 use Rattle.tape.specs.declared.command.Command.TheVariants as command
 use Rattle.tape.specs.declared.item.Item.{Item}

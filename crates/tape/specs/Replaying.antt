@@ -1,9 +1,10 @@
 -- What a receiver makes of a tape, line by line.
 use Rattle.std.specs.Prelude.{◌≡◌, ℕ, ◌+◌, List, [], ◌∷◌, ◌++◌, length, true, false, cond, ◌⊎◌, Option, None, Some, Ok}
+use Rattle.sss.specs.Cipher.{open_mask, sealed_mask}
 use Rattle.sss.specs.declared.keyed.KeyedFunction.{Ghosts as Keyed}
 use Rattle.sss.specs.declared.coefficient.Coefficient.{Ghosts as Coefficient}
 use Rattle.std.specs.Iterator.{Drains}
-use Rattle.link.specs.Meaning.{function_of}
+use Rattle.sss.specs.Asked.{function_of}
 use Rattle.link.specs.Engines.{Worked}
 use Rattle.link.specs.Ends.{ReceiverState, break_heard, nonce_heard, receiving, tag_heard, word_heard}
 use Rattle.link.specs.Receiving.{Given, Released, decided}
@@ -18,7 +19,7 @@ use Rattle.tape.specs.Items.{command_of, place_of}
 use Rattle.tape.specs.Reading.{ReadsNext, left}
 use Rattle.tape.specs.declared.replay.Replay.{Replay}
 use Rattle.tape.specs.declared.item.Item.{Item}
-use Rattle.tape.specs.Format.{Ending, Ends, Reads, bytes_of, fault_of, open_mask, sealed_mask, tape_of}
+use Rattle.tape.specs.Format.{Ending, Ends, Reads, bytes_of, fault_of, tape_of}
 use Rattle.tape.specs.declared.command.Command.{Command}
 use Rattle.tape.specs.declared.command.Command.TheVariants.{Nonce, Sealed, Open, Part, Break, Tag}
 use Rattle.tape.specs.declared.line.Line.{Line}

@@ -2,6 +2,7 @@
 use Rattle.std.specs.Prelude.{◌≡◌, ℕ, List, [], ◌∷◌, ◌++◌, length, map, zip, filter_map, vec_items, Vec}
 use Rattle.std.specs.List.{AllZip}
 use Rattle.std.specs.declared.alloc.Global.{Global}
+use Rattle.sss.specs.Cipher.{open_mask, sealed_mask}
 use Rattle.link.specs.Ends.{history}
 use Rattle.link.specs.OneEnd.{receiver_call, receiver_entry}
 use Rattle.link.specs.declared.call.Call.{Call}
@@ -9,7 +10,7 @@ use Rattle.link.specs.declared.call.ReceiverCall.{ReceiverCall}
 use Rattle.link.specs.declared.call.ReceiverCall.TheVariants as call
 use Rattle.link.specs.declared.call.ReceiverEntry.{ReceiverEntry}
 use Rattle.link.specs.declared.call.ReceiverEntry.TheVariants as receiver
-use Rattle.tape.specs.Format.{Ending, Reads, open_mask, places_from, sealed_mask, tape_of}
+use Rattle.tape.specs.Format.{Ending, Reads, places_from, tape_of}
 use Rattle.tape.specs.Replaying.{last_line}
 use Rattle.tape.specs.declared.command.Command.{Command}
 use Rattle.tape.specs.declared.command.Command.TheVariants.{Nonce, Sealed, Open, Part, Break, Tag}

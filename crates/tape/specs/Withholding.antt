@@ -3,7 +3,7 @@ use Rattle.std.specs.Prelude.{ℕ, List, [], ◌∷◌}
 use Rattle.std.specs.List.{AllByRecursion as Every}
 use Rattle.link.specs.Log.{Stretch, begin, break, finish, heard_too, marked, new}
 use Rattle.link.specs.Law.{Withholds}
-use Rattle.tape.specs.Format.{open_mask, sealed_mask}
+use Rattle.sss.specs.Cipher.{open_mask, sealed_mask}
 use Rattle.tape.specs.declared.command.Command.{Command}
 use Rattle.tape.specs.declared.command.Command.TheVariants.{Nonce, Sealed, Open, Part, Break, Tag}
 use Rattle.tape.specs.declared.line.Line.{Line}

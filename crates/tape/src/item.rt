@@ -30,8 +30,8 @@ impl<'a> WordItem<'a> {
         ensures { result ≡ mask_of self.now }
     {
         match self {
-            WordItem::Sealed(_) => 0xFFFF,
-            WordItem::Open(_) => 0,
+            WordItem::Sealed(_) => sss::SEALED,
+            WordItem::Open(_) => sss::OPEN,
             WordItem::Part(piece) => piece.word(0),
         }
     }

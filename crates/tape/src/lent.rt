@@ -1,7 +1,8 @@
 //! The listing of an input in a lent buffer, with nothing allocated.
 ghost use Rattle.std.specs.Prelude.{◌≡◌, ◌<◌, false, [], ◌∷◌, ◌++◌};
 ghost use Rattle.std.specs.Fmt.{decimal, digit_glyph};
-ghost use Rattle.link.specs.Receiving.{answer_text, hex_of_word, verdict_text};
+ghost use Rattle.sss.specs.Bytes.{hex_of_word};
+ghost use Rattle.link.specs.Receiving.{answer_text, verdict_text};
 ghost use Rattle.tape.specs.Lent.{ListsInto, Puts, PutsLines, PutsListing};
 ghost use Rattle.tape.specs.Lines.{fault_text, line_text};
 

@@ -4,7 +4,7 @@ ghost use Rattle.sss.specs.Cipher.{words_of};
 ghost use Rattle.sss.specs.Bytes.{Octets};
 
 use crate::command::{BREAK, NONCE, OPEN, PART, SEALED, TAG};
-use sss::Fault;
+use sss::{Fault, tag_of_bytes};
 
 /// The part of a tape that one command was read from: its command byte, which is `COMMAND`, and its operands, `SIZE` bytes together.
 #[derive(Clone, Copy, PartialEq, Eq, Debug)]
@@ -85,6 +85,7 @@ impl TagItem<'_> {
     pub fn tag(&self) -> [u16; 8]
         ensures { result ≡ words_of (drop 1 self.now.bytes.now) }
     {
-        std::array::from_fn(|i| self.word(i))
+        // Sixteen bytes stand behind the command byte, and the checker proves that this does not stop.
+        tag_of_bytes(self.bytes.last_chunk().unwrap())
     }
 }

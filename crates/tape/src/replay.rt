@@ -53,9 +53,8 @@ impl<'a> Replay<'a, FilledTable, PrintedTable> {
         let (key, tape) = rest
             .split_at_checked(usize::from(*count))
             .ok_or(Fault::Key)?;
-        let mut function = FilledTable::new();
-        function.load(key)?;
-        Ok(Replay::new(Receiver::new(function, PrintedTable), tape))
+        let receiver = Receiver::new(FilledTable::of(key)?, PrintedTable);
+        Ok(Replay::new(receiver, tape))
     }
 }
 

@@ -6,7 +6,7 @@ use Rattle.capi.proofs.opening.futsamboly_open.Goals as goal
 use Rattle.capi.proofs.opening.futsamboly_open.Goals.{in-Ok, in-Err}
 
 pub returns-clause-back : goal.returns-clause-back
-returns-clause-back c = λ fits. elim c.match-filled.branch [
+returns-clause-back c = λ fits. elim c.match-of.branch [
   | in-Ok w ↦
       let a = c.args in
       let loaded = w.in-Ok.ensures in

@@ -25,7 +25,7 @@ unfolding zeroed
 returns c =
     let mask = c.args.mask in
     let key = c.in_ok-f.ensures in
-    let said = c.seal_word-sealed.ensures.promise key.1 in
+    let said = c.seal_word-sealed.ensures.promise key.2 in
     let f : ℕ → ℕ = keyed (key_table (0 ∷ [])) in
     let wire : c.seal_word-sealed.result ≡ masked mask zero_keystream 0x1234 = cc (first_wire f mask 0x1234) in
     let mac : get_or c.check_words.result 16 0 ≡ mactext mask zero_keystream 0x1234 = cc (first_mactext f mask 0x1234) in

@@ -1,6 +1,6 @@
 use Rattle.std.proofs.Common.{ℕ, get_or, ap, ◌∙◌}
 use Rattle.sss.specs.Tables.{products}
-use Rattle.functions.specs.TableRules.{product_rule}
+use Rattle.functions.proofs.Products.{product_rule}
 use Rattle.functions.proofs.tables.printed_product.Goals as goal
 
 pub returns : goal.returns

@@ -1,7 +1,7 @@
 use Rattle.std.proofs.Common.{◌≡◌, ◌<◌, ◌+◌, ◌*◌, ◌/◌, ◌%◌, ℕ, List, get_or, set, length, sym, ap, ◌∙◌, subst, arith}
 use Rattle.sss.specs.declared.message.MaskedWord.{MaskedWord}
 use Rattle.sss.proofs.Asked.{asked_so, asked_then}
-use Rattle.sss.proofs.Passed.{Passing, passing_more, passed_words, passed_state}
+use Rattle.sss.proofs.Passed.{Passing, passing_more, passed}
 use Rattle.message.specs.Buffers.{text_bytes, words_under}
 use Rattle.message.proofs.Buffers.{bytes_under, octets_put, length-words_under, word_of, word_put, word_under}
 use Rattle.message.proofs.passing.pass_bytes.Goals as goal
@@ -24,16 +24,14 @@ loop-i-preserved g c =
     let high-is : high ≡ c.pass.result / 256 % 256 = ap (λ (xs : List ℕ). get_or xs 1 0) c.to_le_bytes.ensures in
     let put = word_put masks l.bytes l.i c.pass.result low high none long here (omega (arith, low-is, high-is, c.pass.type_inv)) in (
       octets_put (set l.bytes (2 * l.i) low) (2 * l.i + 1) high (octets_put l.bytes (2 * l.i) low l.invariant.0 (omega (arith, low-is))) (omega (arith, high-is)),
-      asked_then l.invariant.1 c.pass.ensures (λ f so passed.
-          subst (λ (ws : List MaskedWord). Passing (d.text f) (d.after f A) (d.words f A) (d.last f A) c.args.registers.now (words_under masks c.args.bytes.now) c.pass.new.registers ws (l.i + 1))
-          (sym put)
-          (passing_more (d.text f) (d.after f A) (d.words f A) (d.last f A) (g.met.D.Direction.word_by_word f A) c.args.registers.now (words_under masks c.args.bytes.now)
-          l.registers (words_under masks l.bytes) l.i so none c.pass.result c.pass.new.registers (omega arith) (passed.0 ∙ ap (d.text f l.registers) (sym read)) (passed.1 ∙ ap (d.after f A l.registers) (sym read)))),
+      asked_then l.invariant.1 c.pass.ensures (λ f so step.
+          subst (λ (ws : List MaskedWord). Passing (d.words f A) (d.last f A) c.args.registers.now (words_under masks c.args.bytes.now) c.pass.new.registers ws (l.i + 1)) (sym put)
+          (passing_more (g.met.D.Direction.word_by_word f A) so none c.pass.result c.pass.new.registers (omega arith)
+          (step.0 ∙ ap (d.text f l.registers) (sym read)) (step.1 ∙ ap (d.after f A l.registers) (sym read)))),
     )
 
 pub returns : goal.returns
 returns g c =
-    let d = g.D.Direction in
     let A = g.C.Coefficient.image c.args.a.now in
     let l = c.loop-i in
     let masks = c.args.masks.now in
@@ -41,8 +39,5 @@ returns g c =
     let count = length-words_under masks l.bytes long in
     let back = bytes_under masks l.bytes long l.invariant.0 (omega (arith, c.requires.even, c.requires.long, long)) in
     asked_so l.invariant.1 (λ f so.
-    let passes = g.met.D.Direction.word_by_word f A in
-    let words = passed_words (d.text f) (d.after f A) (d.words f A) (d.last f A) passes c.args.registers.now (words_under masks c.args.bytes.now) l.registers (words_under masks l.bytes) l.i so (omega arith) in (
-      sym back ∙ ap text_bytes words,
-      passed_state (d.text f) (d.after f A) (d.words f A) (d.last f A) passes c.args.registers.now (words_under masks c.args.bytes.now) l.registers (words_under masks l.bytes) l.i so (omega arith),
-    ))
+    let all = passed (g.met.D.Direction.word_by_word f A) so (omega arith) in
+    (sym back ∙ ap text_bytes all.0, all.1))

@@ -11,5 +11,5 @@ invariant-loop-i g l =
     let A = g.C.Coefficient.image l.a in
     Octets l.bytes ×
     Asked g.K.KeyedFunction l.initial.f l.f (λ f.
-    Passing (d.text f) (d.after f A) (d.words f A) (d.last f A) l.initial.registers (words_under l.masks l.initial.bytes) l.registers
+    Passing (d.words f A) (d.last f A) l.initial.registers (words_under l.masks l.initial.bytes) l.registers
     (words_under l.masks l.bytes) l.i)

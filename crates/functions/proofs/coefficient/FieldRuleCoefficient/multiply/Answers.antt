@@ -5,7 +5,7 @@ use Rattle.std.proofs.lemmas.Iterator.{YieldsList-from_range}
 use Rattle.std.proofs.lemmas.List.Sums.{fold_push}
 use Rattle.std.specs.List.{range_with_len}
 use Rattle.sss.specs.Cipher.{times_z, times_z_power}
-use Rattle.functions.specs.Products.{product_by_rule}
+use Rattle.functions.proofs.Products.{product_by_rule}
 use Rattle.functions.proofs.coefficient.FieldRuleCoefficient.multiply.Goals as goal
 
 pub returns : goal.returns

@@ -1,6 +1,6 @@
 use Rattle.std.proofs.Common.{rules}
 use Rattle.sss.specs.Cipher.{key_entry, key_table}
-use Rattle.functions.proofs.Arrays.{made_by}
+use Rattle.sss.proofs.Arrays.{made_by}
 use Rattle.functions.proofs.key.Key.entries.Goals as goal
 
 pub returns : goal.returns

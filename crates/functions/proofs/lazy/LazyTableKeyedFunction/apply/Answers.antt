@@ -1,4 +1,4 @@
-use Rattle.std.proofs.Common.{ℕ, ◌/◌, List, get_or, set, Some, None, sym, refl, ap, ◌∙◌, subst}
+use Rattle.std.proofs.Common.{◌≡◌, ℕ, ◌/◌, List, get_or, set, Some, None, Option, OnSome, sym, refl, ap, ◌∙◌, subst}
 use lib.Bits.{bit_xor}
 use Rattle.functions.specs.Functions.{Remembers}
 use Rattle.functions.proofs.Remembered.{image_of_known, remembers_more, entry_of_image, known_again}
@@ -13,6 +13,7 @@ returns-in-Some g c =
       value = λ s. image_of_known S entries s.1 c.args.a c.in-Some.known here;
       kept = record { meaning = refl; sound = λ s. s };
       remembered = known_again entries (c.args.a / 256) c.in-Some.known c.args.a here;
+      spared = subst (λ (o : Option ℕ). OnSome o (c.args.self.now.below ≡ c.args.self.now.below)) here refl;
     }
 
 pub returns-in-None : goal.returns-in-None
@@ -35,4 +36,6 @@ returns-in-None g c =
         );
       };
       remembered = put;
+      spared = subst (λ (o : Option ℕ). OnSome o (c.apply-image.new.self ≡ c.args.self.now.below))
+          (c.in-None.ensures ∙ ap (λ (i : ℕ). get_or c.args.self.now.entries i None) c.high_byte-i.ensures) tt;
     }

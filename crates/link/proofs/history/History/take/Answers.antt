@@ -1,6 +1,6 @@
 use Rattle.std.proofs.Common.{List, ◌∷◌, [], ◌++◌, vec_items, ap, ◌∙◌}
 use Rattle.link.specs.Ends.{receiving, sealing, sealer_engine}
-use Rattle.link.specs.Meaning.{function_of}
+use Rattle.sss.specs.Asked.{function_of}
 use Rattle.link.specs.declared.call.Entry.{Entry}
 use Rattle.link.proofs.Calls.{receiver_noted, sealer_noted}
 use Rattle.link.proofs.history.History.take.Goals as goal

@@ -1,5 +1,5 @@
 use Rattle.std.proofs.Common.{◌≡◌, reverse, length, sym, refl, ap, ◌∙◌, arith, rules}
-use Rattle.sss.specs.Cipher.{State, fed, all_fed}
+use Rattle.sss.specs.Cipher.{BothRegisters, fed, all_fed}
 use Rattle.sss.proofs.Asked.{not_asked, asked_so, asked_then}
 use Rattle.sss.proofs.Left.{left_more, left_none}
 use Rattle.sss.proofs.registers.Registers.feed_check.Goals as goal
@@ -29,4 +29,4 @@ returns-clause-asked g c =
     ap (all_fed f c.self.inside.cipher) (c.reverse.ensures.after ∙ ap reverse c.words-words.ensures)))
 
 pub returns-clause-check : goal.returns-clause-check
-returns-clause-check g c = c.loop-word.invariant.1 ∙ ap (λ (s : State). s.c) c.self.view_is
+returns-clause-check g c = c.loop-word.invariant.1 ∙ ap (λ (s : BothRegisters). s.c) c.self.view_is

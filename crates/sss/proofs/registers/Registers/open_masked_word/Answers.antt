@@ -1,8 +1,8 @@
 use Rattle.std.proofs.Common.{ap, ◌∙◌}
 use lib.Bits.{bit_and, bit_xor}
-use Rattle.sss.specs.Cipher.{State, keystream}
+use Rattle.sss.specs.Cipher.{BothRegisters, keystream}
 use Rattle.sss.proofs.Asked.{asked_then}
-use Rattle.sss.proofs.States.{opened_with}
+use Rattle.sss.proofs.BothRegisters.{opened_with}
 use Rattle.sss.proofs.registers.Registers.open_masked_word.Goals as goal
 
 pub returns : goal.returns
@@ -13,5 +13,5 @@ returns g c =
     let wire = c.args.wire in
     let v = c.keystream-v.result in
     asked_then c.keystream-v.ensures c.absorb.ensures (λ f drawn absorbed.
-    let opened = opened_with f A before mask wire v (drawn ∙ ap (λ (s : State). keystream f s.r) c.self.view_is) in
+    let opened = opened_with f A before mask wire v (drawn ∙ ap (λ (s : BothRegisters). keystream f s.r) c.self.view_is) in
     (opened.0, absorbed ∙ opened.1))

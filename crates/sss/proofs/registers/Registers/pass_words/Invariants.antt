@@ -7,4 +7,4 @@ invariant-loop-word g l =
     let d = g.D.Direction in
     let A = g.C.Coefficient.image l.a in
     Asked g.K.KeyedFunction l.initial.f l.f (λ f.
-    Passing (d.text f) (d.after f A) (d.words f A) (d.last f A) l.initial.self l.initial.words l.self l.words l.word-index)
+    Passing (d.words f A) (d.last f A) l.initial.self l.initial.words l.self l.words l.word-index)
