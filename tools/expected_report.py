@@ -8,7 +8,7 @@ are not foreseen: a key or a nonce that it refuses makes another output.
 import sys
 
 FIELDS = ["key", "nonce", "masks", "plaintext", "wire", "tag"]
-HEX = set(b"0123456789abcdef")
+HEX = set(b"0123456789abcdefABCDEF")
 SHOWN = 5
 
 

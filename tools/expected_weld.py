@@ -22,7 +22,7 @@ PER_LINE = 10
 OPENING = [
     "known figures of cipher and link: all as published",
     f"run {RUN}: wall thicknesses in hundredths of a millimetre, in hex, sealed at one end of the link and received at the other",
-    "words count from 0 in each message; a word is sealed unless it is open (a mileage mark, in metres) or part (the bits of its mask)",
+    "words count from 0 in each message; a word is sealed unless it is open (a milestone, in metres) or part (the bits of its mask)",
     "withheld ROW: after a loss no reading is handed out until 17 sealed words in a row have come, and ROW of them have",
     "false: a reading that is not the plaintext which was sealed",
     "last line: the words that the sealer took, under any mask; of these the received; of those the handed out and the withheld; and the false",
@@ -32,10 +32,10 @@ OPENING = [
 class Message:
     """A message of the scenario: what is sealed, and what becomes of it."""
 
-    def __init__(self, words, finished, marks=(), parts=(), losses=(), altered=()):
+    def __init__(self, words, finished, milestones=(), parts=(), losses=(), altered=()):
         self.finished = finished
-        self.masks = [OPEN if p in marks else PART if p in parts else SEALED for p in range(words)]
-        self.plains = [2000 + p if p in marks else wall(p) for p in range(words)]
+        self.masks = [OPEN if p in milestones else PART if p in parts else SEALED for p in range(words)]
+        self.plains = [2000 + p if p in milestones else wall(p) for p in range(words)]
         self.lost = {p for first, last in losses for p in range(first, last + 1)}
         self.breaks = {last for _, last in losses}
         self.altered = set(altered)
@@ -46,10 +46,10 @@ def wall(place):
 
 
 SCENARIO = [
-    Message(60, True, marks=(5, 33, 41), losses=[(12, 14), (38, 40)]),
+    Message(60, True, milestones=(5, 33, 41), losses=[(12, 14), (38, 40)]),
     Message(30, False, losses=[(6, 8)]),
     Message(40, True, altered=(10,)),
-    Message(20, True, marks=(4, 14), parts=(9,)),
+    Message(20, True, milestones=(4, 14), parts=(9,)),
 ]
 
 
@@ -137,41 +137,41 @@ def seen(m):
             yield "break", None, None
 
 
-def shares_line(m, row, item):
-    """Whether something seen stands on the line of the row before it."""
-    what, place, number = row[-1]
+def shares_line(m, line, item):
+    """Whether something seen stands on the line of what was seen before it."""
+    what, place, number = line[-1]
     if what not in ("lost", "withheld", "true") or item[:2] != (what, place + 1) or m.masks[place] != m.masks[place + 1]:
         return False
-    return {"lost": True, "withheld": item[2] == (number or 0) + 1, "true": len(row) < PER_LINE}[what]
+    return {"lost": True, "withheld": item[2] == (number or 0) + 1, "true": len(line) < PER_LINE}[what]
 
 
-def rows(m):
+def lines(m):
     """What is seen of a message, line by line."""
-    row = []
+    line = []
     for item in seen(m):
-        if row and not shares_line(m, row, item):
-            yield row
-            row = []
-        row.append(item)
-    if row:
-        yield row
+        if line and not shares_line(m, line, item):
+            yield line
+            line = []
+        line.append(item)
+    if line:
+        yield line
 
 
-def row_text(m, row):
-    what, place, number = row[0]
+def line_text(m, line):
+    what, place, number = line[0]
     if what == "break":
         return "break: the receiver is told of the loss"
     kind = {SEALED: "", OPEN: " (open)"}.get(m.masks[place], f" (part, mask {m.masks[place]:04x})")
-    where = (f"word {place}" if len(row) == 1 else f"words {place} to {row[-1][1]}") + kind
+    where = (f"word {place}" if len(line) == 1 else f"words {place} to {line[-1][1]}") + kind
     if what == "lost":
         return f"{where}: lost at a weld"
     if what == "altered":
         return f"{where}: altered on the way, wire {m.wires[place]:04x} came as {number:04x}"
     if what == "withheld":
-        return f"{where}: withheld {number}" if len(row) == 1 else f"{where}: withheld, rows {number} to {row[-1][2]}"
+        return f"{where}: withheld {number}" if len(line) == 1 else f"{where}: withheld, rows {number} to {line[-1][2]}"
     if what == "false":
         return f"{where}: reading {number:04x} false, the plaintext is {m.plains[place]:04x}"
-    return f"{where}: reading" + "".join(f" {item[2]:04x}" for item in row)
+    return f"{where}: reading" + "".join(f" {item[2]:04x}" for item in line)
 
 
 def main():
@@ -181,15 +181,15 @@ def main():
     print("\n".join(OPENING))
     for number, m in enumerate(SCENARIO, 1):
         print(f"message {number}, nonce {m.nonce}")
-        for row in rows(m):
-            print("  " + row_text(m, row))
+        for line in lines(m):
+            print("  " + line_text(m, line))
         print(f"  tag {m.tag}: verdict {m.verdict}" if m.finished else "  abandoned by the sealer: no tag, no verdict")
     print(f"a message of one word, sealed call by call, not sent across the joint and in no count: plaintext {wall(0):04x}, wire {wire}, tag {tag}")
     kinds = [what for m in SCENARIO for what, _, _ in seen(m)]
-    handed, withheld, wrong = kinds.count("true") + kinds.count("false"), kinds.count("withheld"), kinds.count("false")
+    handed_out, withheld, false_readings = kinds.count("true") + kinds.count("false"), kinds.count("withheld"), kinds.count("false")
     sealed = sum(len(m.masks) for m in SCENARIO)
     received = sum(len(m.answers) for m in SCENARIO)
-    print(f"sealed {sealed} received {received} handed-out {handed} withheld {withheld} false {wrong}")
+    print(f"sealed {sealed} received {received} handed-out {handed_out} withheld {withheld} false {false_readings}")
 
 
 main()

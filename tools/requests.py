@@ -16,7 +16,9 @@ import sys
 
 SEED = 20260
 MOST = 1_000_000
-NO_BYTES = "not bytes in hex, two digits a byte, where no bytes are written -"
+NO_DIGITS = "no digits, where an empty field is written -"
+ODD_DIGITS = "an odd number of digits"
+NOT_A_DIGIT = "a digit that is not hex"
 NO_NONCE = "not six bytes in hex, two digits a byte"
 NO_LENGTH = "not a number from 0 to 1000000"
 
@@ -238,8 +240,14 @@ class Unread(Exception):
 
 
 def check_bytes(name, field):
-    if field != b"-" and not re.fullmatch(rb"([0-9a-fA-F]{2})+", field):
-        raise Unread(f"field {name}: {NO_BYTES}")
+    if field == b"-":
+        return
+    if not field:
+        raise Unread(f"field {name}: {NO_DIGITS}")
+    if len(field) % 2:
+        raise Unread(f"field {name}: {ODD_DIGITS}")
+    if not re.fullmatch(rb"[0-9a-fA-F]+", field):
+        raise Unread(f"field {name}: {NOT_A_DIGIT}")
 
 
 def check_nonce(name, field):

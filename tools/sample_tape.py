@@ -29,17 +29,17 @@ def wall(place):
 class Message:
     """A message: what is sealed, and what of it comes onto the tape.
 
-    Words are sealed unless they are `marks`, open mileage marks in metres,
+    Words are sealed unless they are `milestones`, open milestones in metres,
     `parts`, of which twelve bits are sealed. Those of `spelled`, sealed words
-    and marks, are written as part words with their masks. The words that were
+    and milestones, are written as part words with their masks. The words that were
     `lost` are not on the tape, and a break stands for each run of them. Nor are
     the first ones with the nonce, if they were sealed before the recorder was
     `on`; of those the tape says nothing.
     """
 
-    def __init__(self, words, marks=(), parts=(), spelled=(), lost=(), altered=(), on=0, finished=True, wrong_tag=False):
-        self.masks = [NONE if p in marks else LOW if p in parts else ALL for p in range(words)]
-        self.plains = [2000 + p if p in marks else wall(p) for p in range(words)]
+    def __init__(self, words, milestones=(), parts=(), spelled=(), lost=(), altered=(), on=0, finished=True, wrong_tag=False):
+        self.masks = [NONE if p in milestones else LOW if p in parts else ALL for p in range(words)]
+        self.plains = [2000 + p if p in milestones else wall(p) for p in range(words)]
         self.spelled, self.lost, self.altered = set(spelled), set(lost), set(altered)
         self.on, self.finished, self.wrong_tag = on, finished, wrong_tag
 
@@ -79,21 +79,21 @@ def low_first(word):
 
 MESSAGES = [
     # the recorder is switched on: a new receiver is lost, and the tag is that of no message which it saw begin
-    Message(26, marks=(23,), parts=(20,), spelled=(22, 23), on=18),
+    Message(26, milestones=(23,), parts=(20,), spelled=(22, 23), on=18),
     # whole: it agrees
-    Message(44, marks=(5, 19, 33), parts=(9, 10, 38), spelled=(14, 19, 27)),
+    Message(44, milestones=(5, 19, 33), parts=(9, 10, 38), spelled=(14, 19, 27)),
     # given up at once: two nonces in a row
     Message(0, finished=False),
     # words are lost, an open word and part words put the row back, rows 1 to 17, an open word once caught: broken
-    Message(66, marks=(4, 20, 31, 61), parts=(26,), spelled=(22, 23, 31, 40, 45), lost=range(9, 14)),
+    Message(66, milestones=(4, 20, 31, 61), parts=(26,), spelled=(22, 23, 31, 40, 45), lost=range(9, 14)),
     # an altered word, of which nobody was told, and readings that come right again: it differs
     Message(32, altered=(6,)),
     # the tag was altered: it differs
-    Message(8, marks=(3,), wrong_tag=True),
+    Message(8, milestones=(3,), wrong_tag=True),
     # no words: it agrees
     Message(0),
     # its end is lost, a break at the very end
-    Message(15, marks=(7,), lost=range(12, 15), finished=False),
+    Message(15, milestones=(7,), lost=range(12, 15), finished=False),
 ]
 
 

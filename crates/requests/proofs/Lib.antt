@@ -1,5 +1,3 @@
-pub mod Placed
 pub mod Buffers
 pub mod SixBytes
-pub mod Folded
 pub mod Printed

@@ -7,6 +7,7 @@ use Rattle.std.specs.Io.KnownBytes.{Appends, prepend_known}
 use Rattle.std.specs.declared.io.buffered.BufReader.{BufReader}
 use Rattle.std.specs.List.{FoldsTo, concat}
 use Rattle.std.proofs.lemmas.List.{append-nil}
+use Rattle.fields.proofs.Appended.{nothing_more, appends_then}
 use Rattle.requests.specs.Runs.{NextLine, Progress, Takes, Told}
 use Rattle.requests.specs.Tallies.{fresh}
 use Rattle.requests.specs.declared.tally.Tally.{Tally}
@@ -18,16 +19,6 @@ pub record SoFar (printed printed' : Option (List ℕ)) (input : List ℕ) (left
   pub known : left ≡ Some rest
   pub told : FoldsTo NextLine (record { left = input; tally = fresh }) texts (record { left = rest; tally = tally })
   pub grew : Appends printed printed' (concat texts)
-
-nothing_more : (printed : Option (List ℕ)) → Appends printed printed []
-nothing_more None = tt
-nothing_more (Some xs) = sym (append-nil xs)
-
-appends_then : (a b c : Option (List ℕ)) (x y : List ℕ) → Appends a b x → Appends b c y → Appends a c (x ++ y)
-appends_then None b c x y p q = tt
-appends_then (Some xs) None c x y p q = absurd p
-appends_then (Some xs) (Some ys) None x y p q = absurd q
-appends_then (Some xs) (Some ys) (Some zs) x y p q = q ∙ ap (λ l. l ++ y) p ∙ append_assoc xs x y
 
 concat_more : (xs : List (List ℕ)) (x : List ℕ) → concat xs ++ x ≡ concat (xs ++ x ∷ [])
 concat_more [] x = sym (append-nil x)

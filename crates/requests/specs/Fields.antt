@@ -1,26 +1,16 @@
 -- The fields of a line, and what the text of each stands for.
-use Rattle.std.specs.Prelude.{◌≡◌, ◌≢◌, ℕ, ◌%◌, ◌<◌, ◌≤◌, ◌⊎◌, List, [], length, codes, Ok}
+use Rattle.std.specs.Prelude.{◌≡◌, ℕ, ◌≤◌, List, Ok}
 use Rattle.std.specs.Str.Parse.{IsNumeral, digits_value, without_leading_plus}
-use Rattle.hex.specs.Hex.{decode_of, decode_sized}
+use Rattle.hex.specs.Hex.{decode_sized}
+use Rattle.fields.specs.Reading as reading
 use Rattle.requests.specs.declared.field.Flaw.{Flaw}
-use Rattle.requests.specs.declared.field.Flaw.TheVariants.{NotBytes, NotSixBytes, NotALength, NoMemory}
+use Rattle.requests.specs.declared.field.Flaw.TheVariants.{NotBytes, NotSixBytes, NotALength}
 
--- The field's text stands for these bytes: a lone `-` for none, hex digits for those that they spell.
-abbrev pub FieldBytes : List ℕ → List ℕ → Type 0
-FieldBytes text bytes = ((text ≡ codes "-") × (bytes ≡ [])) ⊎ ((0 < length text) × (decode_of text ≡ Ok bytes))
-
--- The digits are no bytes, for this reason; and the field's text stands for none. Memory is asked for only where digits come in pairs.
-abbrev pub NotDecoded : List ℕ → Flaw → Type 0
-NotDecoded digits NotBytes = (bytes : List ℕ) → decode_of digits ≢ Ok bytes
-NotDecoded digits NotSixBytes = ⊥
-NotDecoded digits NotALength = ⊥
-NotDecoded digits NoMemory = length digits % 2 ≡ 0
-
+-- The field's text stands for no bytes, for this reason.
 abbrev pub NoBytes : List ℕ → Flaw → Type 0
-NoBytes text NotBytes = (bytes : List ℕ) → FieldBytes text bytes → ⊥
+NoBytes text (NotBytes why) = reading.NoBytes text why
 NoBytes text NotSixBytes = ⊥
 NoBytes text NotALength = ⊥
-NoBytes text NoMemory = (0 < length text) × (length text % 2 ≡ 0)
 
 -- The field's text stands for the six bytes of an issuer's nonce, or for none.
 abbrev pub NonceBytes : List ℕ → List ℕ → Type 0

@@ -1,6 +1,7 @@
 -- A line of the input as a request.
-use Rattle.std.specs.Prelude.{◌≡◌, ◌≢◌, ℕ, ◌+◌, ◌⊎◌, List, [], ◌∷◌, length, codes, count_by, nat_eq, slice_index_or, vec_items, IsUtf8, Ok, Err, Result}
-use Rattle.std.specs.List.{join_with_byte}
+use Rattle.std.specs.Prelude.{◌≡◌, ◌≢◌, ℕ, ◌+◌, ◌⊎◌, List, [], ◌∷◌, length, codes, slice_index_or, vec_items, IsUtf8}
+use Rattle.fields.specs.Cutting.{blanks, Cut}
+use Rattle.fields.specs.Reading.{FieldBytes}
 use Rattle.requests.specs.declared.field.Field.{Field}
 use Rattle.requests.specs.declared.field.Field.TheVariants.{Key, Nonce, Masks, Plaintext, Wire, Tag, Room, TagRoom}
 use Rattle.requests.specs.declared.field.Flaw.{Flaw}
@@ -11,11 +12,7 @@ use Rattle.requests.specs.declared.request.Request.{Request}
 use Rattle.requests.specs.declared.request.Request.TheVariants.{Seal, Open}
 use Rattle.requests.specs.declared.request.Unread.{Unread}
 use Rattle.requests.specs.declared.request.Unread.TheVariants as unread
-use Rattle.requests.specs.Fields.{FieldBytes, NoBytes, NonceBytes, NoNonce, LengthOf, NoLength}
-
--- How many blanks a text has.
-abbrev pub blanks : List ℕ → ℕ
-blanks text = count_by (λ c. nat_eq c 32) text
+use Rattle.requests.specs.Fields.{NoBytes, NonceBytes, NoNonce, LengthOf, NoLength}
 
 -- The texts of the seven parts, in their order.
 abbrev pub texts_of : Parts → List (List ℕ)
@@ -25,10 +22,6 @@ texts_of p = p.call.now ∷ p.key.now ∷ p.nonce.now ∷ p.masks.now ∷ p.inpu
 abbrev pub part : List (List ℕ) → ℕ → List ℕ
 part texts k = slice_index_or texts k []
 
--- The texts are the pieces of the line between its blanks: joined by blanks they are the line, and they are one more than it has blanks.
-abbrev pub Cut : List ℕ → List (List ℕ) → Type 0
-Cut line texts = (line ≡ join_with_byte 32 texts) × (length texts ≡ blanks line + 1)
-
 -- The line cut at each blank does not give seven texts, or there was no memory to cut it.
 abbrev pub NotCut : List ℕ → Unread → Type 0
 NotCut line (unread.Parts n) = (n ≡ blanks line + 1) × (n ≢ 7)
@@ -36,11 +29,6 @@ NotCut line unread.NoMemory = Unit {0}
 NotCut line unread.NotText = ⊥
 NotCut line unread.OtherCall = ⊥
 NotCut line (unread.InField field flaw) = ⊥
-
--- A field's fault as the line's.
-abbrev pub placed : {T : Type 0} → Field → Result T Flaw → Result T Unread
-placed field (Ok x) = Ok x
-placed field (Err flaw) = Err (unread.InField field flaw)
 
 -- The texts of seven parts ask for this message to be sealed.
 pub record ReadsSealing (texts : List (List ℕ)) (r : SealRequest) : Type 0 where
@@ -64,50 +52,50 @@ pub record ReadsOpening (texts : List (List ℕ)) (r : OpenRequest) : Type 0 whe
 abbrev pub Readable : (List ℕ → List ℕ → Type 0) → List ℕ → Type 0
 Readable Stands text = (bytes : List ℕ) × Stands text bytes
 
--- This field of `seal`, or of `open`, is at fault in this way, or there was no memory for it; those before it are not.
-abbrev pub FaultySealing : List (List ℕ) → Field → Flaw → Type 0
-FaultySealing texts Key flaw = NoBytes (part texts 1) flaw
-FaultySealing texts Nonce flaw = Readable FieldBytes (part texts 1) × NoNonce (part texts 2) flaw
-FaultySealing texts Masks flaw = Readable FieldBytes (part texts 1) × Readable NonceBytes (part texts 2) × NoBytes (part texts 3) flaw
-FaultySealing texts Plaintext flaw =
+-- This field of `seal`, or of `open`, is flawed in this way, or there was no memory for it; those before it are not.
+abbrev pub FlawedSealing : List (List ℕ) → Field → Flaw → Type 0
+FlawedSealing texts Key flaw = NoBytes (part texts 1) flaw
+FlawedSealing texts Nonce flaw = Readable FieldBytes (part texts 1) × NoNonce (part texts 2) flaw
+FlawedSealing texts Masks flaw = Readable FieldBytes (part texts 1) × Readable NonceBytes (part texts 2) × NoBytes (part texts 3) flaw
+FlawedSealing texts Plaintext flaw =
     Readable FieldBytes (part texts 1) × Readable NonceBytes (part texts 2) × Readable FieldBytes (part texts 3) × NoBytes (part texts 4) flaw
-FaultySealing texts Wire flaw = ⊥
-FaultySealing texts Tag flaw = ⊥
-FaultySealing texts Room flaw =
+FlawedSealing texts Wire flaw = ⊥
+FlawedSealing texts Tag flaw = ⊥
+FlawedSealing texts Room flaw =
     Readable FieldBytes (part texts 1) × Readable NonceBytes (part texts 2) × Readable FieldBytes (part texts 3) × Readable FieldBytes (part texts 4) ×
     NoLength (part texts 5) flaw
-FaultySealing texts TagRoom flaw =
+FlawedSealing texts TagRoom flaw =
     Readable FieldBytes (part texts 1) × Readable NonceBytes (part texts 2) × Readable FieldBytes (part texts 3) × Readable FieldBytes (part texts 4) ×
     ((n : ℕ) × LengthOf (part texts 5) n) × NoLength (part texts 6) flaw
 
-abbrev pub FaultyOpening : List (List ℕ) → Field → Flaw → Type 0
-FaultyOpening texts Key flaw = NoBytes (part texts 1) flaw
-FaultyOpening texts Nonce flaw = Readable FieldBytes (part texts 1) × NoBytes (part texts 2) flaw
-FaultyOpening texts Masks flaw = Readable FieldBytes (part texts 1) × Readable FieldBytes (part texts 2) × NoBytes (part texts 3) flaw
-FaultyOpening texts Plaintext flaw = ⊥
-FaultyOpening texts Wire flaw =
+abbrev pub FlawedOpening : List (List ℕ) → Field → Flaw → Type 0
+FlawedOpening texts Key flaw = NoBytes (part texts 1) flaw
+FlawedOpening texts Nonce flaw = Readable FieldBytes (part texts 1) × NoBytes (part texts 2) flaw
+FlawedOpening texts Masks flaw = Readable FieldBytes (part texts 1) × Readable FieldBytes (part texts 2) × NoBytes (part texts 3) flaw
+FlawedOpening texts Plaintext flaw = ⊥
+FlawedOpening texts Wire flaw =
     Readable FieldBytes (part texts 1) × Readable FieldBytes (part texts 2) × Readable FieldBytes (part texts 3) × NoBytes (part texts 4) flaw
-FaultyOpening texts Tag flaw =
+FlawedOpening texts Tag flaw =
     Readable FieldBytes (part texts 1) × Readable FieldBytes (part texts 2) × Readable FieldBytes (part texts 3) × Readable FieldBytes (part texts 4) ×
     NoBytes (part texts 5) flaw
-FaultyOpening texts Room flaw =
+FlawedOpening texts Room flaw =
     Readable FieldBytes (part texts 1) × Readable FieldBytes (part texts 2) × Readable FieldBytes (part texts 3) × Readable FieldBytes (part texts 4) ×
     Readable FieldBytes (part texts 5) × NoLength (part texts 6) flaw
-FaultyOpening texts TagRoom flaw = ⊥
+FlawedOpening texts TagRoom flaw = ⊥
 
--- The fields of `seal`, or of `open`, stand for no message: one is at fault.
+-- The fields of `seal`, or of `open`, stand for no message: one is flawed.
 abbrev pub NoSealing : List (List ℕ) → Unread → Type 0
-NoSealing texts e = (field : Field) × (flaw : Flaw) × (e ≡ unread.InField field flaw) × FaultySealing texts field flaw
+NoSealing texts e = (field : Field) × (flaw : Flaw) × (e ≡ unread.InField field flaw) × FlawedSealing texts field flaw
 
 abbrev pub NoOpening : List (List ℕ) → Unread → Type 0
-NoOpening texts e = (field : Field) × (flaw : Flaw) × (e ≡ unread.InField field flaw) × FaultyOpening texts field flaw
+NoOpening texts e = (field : Field) × (flaw : Flaw) × (e ≡ unread.InField field flaw) × FlawedOpening texts field flaw
 
 -- The texts of seven parts ask for this call.
 abbrev pub Reads : List (List ℕ) → Request → Type 0
 Reads texts (Seal r) = (part texts 0 ≡ codes "seal") × ReadsSealing texts r
 Reads texts (Open r) = (part texts 0 ≡ codes "open") × ReadsOpening texts r
 
--- The texts of seven parts ask for none: the first is another word, or a field is at fault.
+-- The texts of seven parts ask for none: the first is another word, or a field is flawed.
 abbrev pub NotRead : List (List ℕ) → Unread → Type 0
 NotRead texts e =
     ((e ≡ unread.OtherCall) × (part texts 0 ≢ codes "seal") × (part texts 0 ≢ codes "open")) ⊎

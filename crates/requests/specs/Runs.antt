@@ -1,9 +1,9 @@
 -- What a run of the program prints.
-use Rattle.std.specs.Prelude.{◌≡◌, ℕ, ◌<◌, ◌⊎◌, List, [], ◌∷◌, ◌++◌, codes, length, Option}
-use Rattle.std.specs.Fmt.{decimal}
+use Rattle.std.specs.Prelude.{◌≡◌, ℕ, ◌<◌, ◌⊎◌, List, [], ◌++◌, length, Option}
 use Rattle.std.specs.Io.BufRead.{drop_through, first_piece}
 use Rattle.std.specs.Io.KnownBytes.{Appends}
 use Rattle.std.specs.List.{FoldsTo, concat}
+use Rattle.fields.specs.Texts.{ended, numbered}
 use Rattle.requests.specs.declared.reply.Reply.{Reply}
 use Rattle.requests.specs.declared.request.Unread.{Unread}
 use Rattle.requests.specs.declared.tally.Tally.{Tally}
@@ -11,16 +11,12 @@ use Rattle.requests.specs.Replies.{Answers, NotAnswered}
 use Rattle.requests.specs.Tallies.{after_reply, after_unread, fresh}
 use Rattle.requests.specs.Texts.{reply_text, tally_text, unread_text}
 
--- A text with a line's end.
-abbrev pub ended : List ℕ → List ℕ
-ended text = text ++ 0x0A ∷ []
-
 -- The text for a line, and how it is counted: the line is a request, and its reply is told; or it is none, and the reason is told with the
 -- line's number.
 abbrev pub Told : List ℕ → Tally → Tally → List ℕ → Type 0
 Told line before after text =
     ((reply : Reply) × Answers line reply × (after ≡ after_reply reply before) × (text ≡ ended (reply_text reply))) ⊎
-    ((e : Unread) × NotAnswered line e × (after ≡ after_unread before) × (text ≡ codes "line " ++ decimal after.requests ++ codes ": " ++ ended (unread_text e)))
+    ((e : Unread) × NotAnswered line e × (after ≡ after_unread before) × (text ≡ numbered after.requests (unread_text e)))
 
 -- The same, where the text is printed.
 abbrev pub Takes : List ℕ → Tally → Tally → Option (List ℕ) → Option (List ℕ) → Type 0

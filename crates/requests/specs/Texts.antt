@@ -1,9 +1,8 @@
 -- What is printed.
-use Rattle.std.specs.Prelude.{ℕ, List, [], ◌∷◌, ◌++◌, codes, vec_items, Ok, Err}
-use Rattle.std.specs.List.{flat_map}
+use Rattle.std.specs.Prelude.{ℕ, List, ◌++◌, codes, vec_items, Ok, Err}
 use Rattle.std.specs.Fmt.{decimal}
 use Rattle.sss.specs.Faults.{number_of}
-use Rattle.link.specs.Receiving.{hex_of_byte}
+use Rattle.fields.specs.Texts.{hex_text, not_bytes_text}
 use Rattle.requests.specs.declared.field.Field.{Field}
 use Rattle.requests.specs.declared.field.Field.TheVariants.{Key, Nonce, Masks, Plaintext, Wire, Tag, Room, TagRoom}
 use Rattle.requests.specs.declared.field.Flaw.{Flaw}
@@ -13,11 +12,6 @@ use Rattle.requests.specs.declared.reply.Reply.TheVariants.{NoKey, Sealing, Open
 use Rattle.requests.specs.declared.request.Unread.{Unread}
 use Rattle.requests.specs.declared.request.Unread.TheVariants as unread
 use Rattle.requests.specs.declared.tally.Tally.{Tally}
-
--- Bytes in lower-case hexadecimal digits, two to a byte; none are a lone `-`.
-abbrev pub hex_text : List ℕ → List ℕ
-hex_text [] = codes "-"
-hex_text (b ∷ bs) = flat_map hex_of_byte (b ∷ bs)
 
 abbrev pub field_text : Field → List ℕ
 field_text Key = codes "key"
@@ -30,10 +24,9 @@ field_text Room = codes "room"
 field_text TagRoom = codes "tagroom"
 
 abbrev pub flaw_text : Flaw → List ℕ
-flaw_text flaw.NotBytes = codes "not bytes in hex, two digits a byte, where no bytes are written -"
+flaw_text (flaw.NotBytes why) = not_bytes_text why
 flaw_text flaw.NotSixBytes = codes "not six bytes in hex, two digits a byte"
 flaw_text flaw.NotALength = codes "not a number from 0 to 1000000"
-flaw_text flaw.NoMemory = codes "no memory to read it"
 
 -- Why a line is no request.
 abbrev pub unread_text : Unread → List ℕ

@@ -1,15 +1,12 @@
 //! The calls that requests ask for, made in buffers of known bytes.
-ghost use Rattle.std.specs.Prelude.{◌≡◌, IfOk, MatchResult};
+ghost use Rattle.std.specs.Prelude.{◌≡◌, IfOk};
 ghost use Rattle.link.specs.Issuing.{nonce_bytes};
-ghost use Rattle.sss.specs.Cipher.{KeyFits, Lawful, key_table};
-ghost use Rattle.sss.specs.declared.fault.Fault.TheVariants.{Key};
 ghost use Rattle.requests.specs.Replies.{SealReply, OpenReply};
 
 use crate::reply::Reply;
 use crate::request::{OpenRequest, SealRequest};
 use functions::{FilledTable, PrintedTable};
 use link::{Issuer, Nonce};
-use sss::Fault;
 use std::alloc::{AllocError, Global};
 
 /// What the output's buffer holds before a call.
@@ -17,15 +14,6 @@ const OUTPUT: u8 = 0xA5;
 
 /// What the tag's buffer holds before a call.
 const TAG: u8 = 0x5A;
-
-/// The keyed function of a key.
-fn loaded(key: &[u8]) -> Result<FilledTable, Fault>
-    ensures { MatchResult result (λ f. KeyFits key.now × (f.entries ≡ key_table key.now) × Lawful f.entries) (λ e. (KeyFits key.now → ⊥) × (e ≡ Key)) }
-{
-    let mut function = FilledTable::new();
-    function.load(key)?;
-    Ok(function)
-}
 
 /// The nonce of a message, by its run number and its message number.
 fn drawn(run: u32, message: u16) -> Nonce
@@ -51,7 +39,7 @@ fn nonce(bytes: &[u8; 6]) -> Nonce
 pub(crate) fn seal(heap: Global, request: &SealRequest) -> Result<Reply, AllocError>
     ensures { IfOk result (SealReply request.now) }
 {
-    let mut function = match loaded(&request.key) {
+    let mut function = match FilledTable::of(&request.key) {
         Ok(function) => function,
         Err(fault) => return Ok(Reply::NoKey(fault)),
     };
@@ -77,7 +65,7 @@ pub(crate) fn seal(heap: Global, request: &SealRequest) -> Result<Reply, AllocEr
 pub(crate) fn open(heap: Global, request: &OpenRequest) -> Result<Reply, AllocError>
     ensures { IfOk result (OpenReply request.now) }
 {
-    let mut function = match loaded(&request.key) {
+    let mut function = match FilledTable::of(&request.key) {
         Ok(function) => function,
         Err(fault) => return Ok(Reply::NoKey(fault)),
     };

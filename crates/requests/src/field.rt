@@ -1,10 +1,11 @@
 //! The fields of a line, and what the text of each stands for.
 ghost use Rattle.std.specs.Prelude.{◌≡◌, Some, MatchResult};
-ghost use Rattle.hex.specs.Hex.{decode_of};
-ghost use Rattle.requests.specs.Fields.{FieldBytes, NoBytes, NotDecoded, NonceBytes, NoNonce, LengthOf, NoLength};
+ghost use Rattle.fields.specs.Reading.{FieldBytes};
+ghost use Rattle.requests.specs.Fields.{NoBytes, NonceBytes, NoNonce, LengthOf, NoLength};
 ghost use Rattle.requests.specs.Texts.{field_text, flaw_text};
 
-use hex::{FromHex, FromHexError};
+use fields::NotBytes;
+use hex::FromHex;
 use std::alloc::Global;
 use std::fmt;
 
@@ -44,14 +45,12 @@ impl fmt::Display for Field {
 /// Why the text of a field stands for nothing.
 #[derive(Clone, Copy, Debug)]
 pub enum Flaw {
-    /// The text is not `-` and not a row of bytes.
-    NotBytes,
+    /// The text is not bytes in hex, or there was no memory to hold them.
+    NotBytes(NotBytes),
     /// The text is not a row of six bytes.
     NotSixBytes,
     /// The text is not a number, or one past what a buffer may have.
     NotALength,
-    /// There was no memory to hold the bytes.
-    NoMemory,
 }
 
 impl fmt::Display for Flaw {
@@ -59,36 +58,18 @@ impl fmt::Display for Flaw {
 
     fn fmt<W: fmt::Write>(&self, f: &mut fmt::Formatter<W>) -> fmt::Result {
         match self {
-            Flaw::NotBytes => write!(
-                f,
-                "not bytes in hex, two digits a byte, where no bytes are written -"
-            ),
+            Flaw::NotBytes(why) => write!(f, "{why}"),
             Flaw::NotSixBytes => write!(f, "not six bytes in hex, two digits a byte"),
             Flaw::NotALength => write!(f, "not a number from 0 to 1000000"),
-            Flaw::NoMemory => write!(f, "no memory to read it"),
         }
     }
-}
-
-/// The bytes of a row of hex digits.
-fn decoded(heap: Global, digits: &[u8]) -> Result<Vec<u8>, Flaw>
-    ensures { MatchResult result (λ v. decode_of digits.now ≡ Ok v.items) (NotDecoded digits.now) }
-{
-    hex::decode(heap, digits).map_err(|e| match e {
-        FromHexError::OutOfMemory => Flaw::NoMemory,
-        _ => Flaw::NotBytes,
-    })
 }
 
 /// The bytes of a field, where `-` is none.
 pub(crate) fn bytes(heap: Global, text: &str) -> Result<Vec<u8>, Flaw>
     ensures { MatchResult result (λ v. FieldBytes text.now v.items) (NoBytes text.now) }
 {
-    match text {
-        "" => Err(Flaw::NotBytes),
-        "-" => Ok(Vec::new(heap)),
-        digits => decoded(heap, digits.as_bytes()),
-    }
+    fields::bytes(heap, text).map_err(Flaw::NotBytes)
 }
 
 /// The six bytes of an issuer's nonce.

@@ -1,8 +1,8 @@
 //! What came of a request, and the line that says so.
 ghost use Rattle.std.specs.Prelude.{Some};
-ghost use Rattle.link.specs.Receiving.{hex_of_byte};
-ghost use Rattle.requests.specs.Texts.{hex_text, reply_text};
+ghost use Rattle.requests.specs.Texts.{reply_text};
 
+use fields::Hex;
 use sss::Fault;
 use std::fmt;
 
@@ -50,37 +50,5 @@ impl fmt::Display for Reply {
                 }
             }
         }
-    }
-}
-
-/// A byte to print in two hex digits.
-#[derive(Clone, Copy)]
-struct HexByte(u8);
-
-impl fmt::Display for HexByte {
-    ghost output = { λ byte. Some (hex_of_byte byte.0) };
-
-    #[tactic(auto, using(std::proofs::lemmas::Fmt::hex_byte))]
-    fn fmt<W: fmt::Write>(&self, f: &mut fmt::Formatter<W>) -> fmt::Result {
-        let byte = self.0;
-        write!(f, "{byte:02x}")
-    }
-}
-
-/// Bytes to print in hex, `-` for none.
-#[derive(Clone, Copy)]
-struct Hex<'a>(&'a [u8]);
-
-impl fmt::Display for Hex<'_> {
-    ghost output = { λ hex. Some (hex_text hex.0.now) };
-
-    fn fmt<W: fmt::Write>(&self, f: &mut fmt::Formatter<W>) -> fmt::Result {
-        if self.0.is_empty() {
-            return write!(f, "-");
-        }
-        for byte in self.0 {
-            write!(f, "{}", HexByte(*byte))?;
-        }
-        Ok(())
     }
 }

@@ -1,9 +1,10 @@
 //! A line of the input as a request.
-ghost use Rattle.std.specs.Prelude.{◌≡◌, ◌+◌, map, Some, IfOk, MatchResult, vec_len};
-ghost use Rattle.std.specs.List.{join_with_byte};
-ghost use Rattle.requests.specs.Lines.{placed, blanks, texts_of, Cut, NotCut, ReadsSealing, NoSealing, ReadsOpening, NoOpening, Reads, NotRead, Parses, NotParsed};
+ghost use Rattle.std.specs.Prelude.{◌≡◌, Some, MatchResult};
+ghost use Rattle.fields.specs.Cutting.{Cut};
+ghost use Rattle.fields.specs.Placing.{placed};
+ghost use Rattle.requests.specs.Lines.{texts_of, NotCut, ReadsSealing, NoSealing, ReadsOpening, NoOpening, Reads, NotRead, Parses, NotParsed};
 ghost use Rattle.requests.specs.Texts.{unread_text};
-ghost use Rattle.requests.specs.declared.request.Unread.TheVariants.{NoMemory};
+ghost use Rattle.requests.specs.declared.request.Unread.TheVariants.{InField, NoMemory};
 
 use crate::field;
 use crate::field::{Field, Flaw};
@@ -19,7 +20,7 @@ pub enum Unread {
     Parts(usize),
     /// The first part is another word.
     OtherCall,
-    /// One field is at fault.
+    /// One field is flawed.
     InField(Field, Flaw),
     /// There was no memory to read the line, or for the buffers of its call.
     NoMemory,
@@ -62,20 +63,12 @@ pub struct Parts<'a> {
     pub seventh: &'a str,
 }
 
-/// The pieces of a line between its blanks.
-fn pieces<'a>(heap: Global, line: &'a str) -> Result<Vec<&'a str>, AllocError>
-    ensures joined { IfOk result (λ v. line.now ≡ join_with_byte 32 (map (λ x. x.now) v.items)) }
-    ensures count { IfOk result (λ v. vec_len v ≡ blanks line.now + 1) }
-{
-    line.split(' ').collect(heap)
-}
-
 impl<'a> Parts<'a> {
     /// Cuts a line at each blank.
     fn cut(heap: Global, line: &'a str) -> Result<Parts<'a>, Unread>
         ensures { MatchResult result (λ p. Cut line.now (texts_of p)) (NotCut line.now) }
     {
-        let texts = pieces(heap, line)?;
+        let texts = fields::pieces(heap, line)?;
         let [call, key, nonce, masks, input, sixth, seventh] = *texts.as_slice() else {
             return Err(Unread::Parts(texts.len()));
         };
@@ -91,9 +84,9 @@ impl<'a> Parts<'a> {
     }
 }
 
-/// A field's fault as the line's.
+/// A field's flaw as the line's.
 fn in_field<T>(field: Field, read: Result<T, Flaw>) -> Result<T, Unread>
-    ensures { result ≡ placed field read }
+    ensures { result ≡ placed (InField field) read }
 {
     read.map_err(|flaw| Unread::InField(field, flaw))
 }

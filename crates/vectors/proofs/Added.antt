@@ -4,7 +4,7 @@ use Rattle.sss.specs.Cipher.{key_table, keyed, product}
 use Rattle.vectors.specs.declared.compare.Comparer.{Comparer}
 use Rattle.vectors.specs.declared.compare.Comparison.TheVariants.{Wire, SealedTag, Plaintext, OpenedTag}
 use Rattle.vectors.specs.declared.compare.Difference.{Difference}
-use Rattle.vectors.specs.declared.compare.Function.{Function}
+use Rattle.vectors.specs.declared.compare.FunctionName.{FunctionName}
 use Rattle.vectors.specs.declared.compare.Outcome.{Outcome}
 use Rattle.vectors.specs.declared.compare.Way.{Way}
 use Rattle.vectors.specs.declared.vector.Vector.{Vector}
@@ -47,7 +47,7 @@ noted_made f o w a b made (same, (part, (held, decides, e), grown)) =
     )
 
 -- What differs with the table of the message's key is what differs with the message's own key.
-pub finds_keyed : (name : Function) (S : List ℕ) (a b : Comparer) → S ≡ key_table (vec_items a.vector.now.key) → Finds (λ v. Both (keyed S) v name) a b → Finds (λ v. Keyed v name) a b
+pub finds_keyed : (name : FunctionName) (S : List ℕ) (a b : Comparer) → S ≡ key_table (vec_items a.vector.now.key) → Finds (λ v. Both (keyed S) v name) a b → Finds (λ v. Keyed v name) a b
 finds_keyed name S a b e (same, more) = (same, subst (λ (T : List ℕ). Adds (Both (keyed T) a.vector.now name) (vec_items a.found) (vec_items b.found)) e more)
 
 -- The key of the message, which the comparer has still.

@@ -5,7 +5,7 @@ use Rattle.vectors.specs.declared.vector.Vector.{Vector}
 use Rattle.vectors.specs.declared.compare.Comparison.{Comparison}
 use Rattle.vectors.specs.declared.compare.Comparison.TheVariants.{Wire, SealedTag, Plaintext, OpenedTag}
 use Rattle.vectors.specs.declared.compare.Difference.{Difference}
-use Rattle.vectors.specs.declared.compare.Function.{Function}
+use Rattle.vectors.specs.declared.compare.FunctionName.{FunctionName}
 use Rattle.vectors.specs.declared.compare.Way.{Way}
 use Rattle.vectors.specs.Ways.{Published, NoneExactly, One, Keyed, Then, FromKeyWays, TableWays, AllWays, failed, key_function}
 
@@ -57,7 +57,7 @@ module _ (v : Vector) where
         e ∙ (λ i. one i ++ (two i ++ (three i ++ four i))),
   )
 
-  keyed_exactly : (f : Function) → Exactly (Published v) (Keyed v f)
+  keyed_exactly : (f : FunctionName) → Exactly (Published v) (Keyed v f)
   keyed_exactly f = then_exactly (Published v) _ _ (one_exactly _) (one_exactly _)
 
   pub none_exactly : (found : List Difference) → AllWays v found → NoneExactly v found

@@ -1,6 +1,6 @@
 pub mod Added
 pub mod Chunked
-pub mod Collected
 pub mod Placed
+pub mod Texts
 pub mod SameWords
 pub mod Judging

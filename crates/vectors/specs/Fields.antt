@@ -1,38 +1,30 @@
 -- The six fields of a line.
-use Rattle.std.specs.Prelude.{◌≡◌, ℕ, ◌+◌, ◌<◌, cond, ◌&&◌, ◌⊎◌, List, [], ◌∷◌, length, count_by, ◌==◌, ◌≢◌, nat_eq, slice_index}
-use Rattle.std.specs.List.{join_with_byte}
-use Rattle.sss.specs.declared.MaskedWord.{MaskedWord}
+use Rattle.std.specs.Prelude.{◌≡◌, ℕ, ◌+◌, ◌*◌, ◌%◌, ◌<◌, ◌⊎◌, List, [], ◌∷◌, length, ◌≢◌, slice_index}
+use Rattle.fields.specs.Cutting.{blanks}
+use Rattle.fields.specs.Reading as reading
+use Rattle.fields.specs.Reading.{FieldBytes}
+use Rattle.fields.specs.declared.reading.NotBytes.TheVariants.{NoMemory}
 use Rattle.vectors.specs.declared.flaw.Flaw.{Flaw}
-use Rattle.vectors.specs.declared.flaw.Flaw.TheVariants.{NoDigits, OddDigits, NotADigit, OddBytes, NotATag, NoMemory}
+use Rattle.vectors.specs.declared.flaw.Flaw.TheVariants.{NotBytes, OddBytes, NotATag}
 use Rattle.vectors.specs.declared.vector.Fields.{Fields}
 use Rattle.vectors.specs.declared.vector.Malformed.{Malformed}
 use Rattle.vectors.specs.declared.vector.Malformed.TheVariants as malformed
-use Rattle.vectors.specs.Hex.{Spells, NotSpelled, Pairs, NotPaired}
-
--- The mask of a word.
-abbrev pub mask_of : MaskedWord → ℕ
-mask_of w = w.mask
-
--- The text of a word.
-abbrev pub text_of : MaskedWord → ℕ
-text_of w = w.text
-
--- The digits that a field's text stands for: none where it is a lone `-`.
-abbrev pub digits_of : List ℕ → List ℕ
-digits_of text = cond (length text == 1 && slice_index text 0 == 45) [] text
-
--- The field's text stands for these bytes.
-abbrev pub FieldBytes : List ℕ → List ℕ → Type 0
-FieldBytes text bytes = (0 < length text) × Spells (digits_of text) bytes
 
 -- The field's text stands for no bytes, for this reason.
 abbrev pub NoBytes : List ℕ → Flaw → Type 0
-NoBytes text NoDigits = length text ≡ 0
-NoBytes text OddDigits = (0 < length text) × NotSpelled (digits_of text) OddDigits
-NoBytes text NotADigit = (0 < length text) × NotSpelled (digits_of text) NotADigit
+NoBytes text (NotBytes why) = reading.NoBytes text why
 NoBytes text OddBytes = ⊥
 NoBytes text (NotATag n) = ⊥
-NoBytes text NoMemory = Unit {0}
+
+-- The bytes make the words, two bytes to a word, the low one first.
+abbrev pub Pairs : List ℕ → List ℕ → Type 0
+Pairs bytes words = (length bytes ≡ 2 * length words) × ((k : ℕ) → k < length words → slice_index words k ≡ slice_index bytes (2 * k) + slice_index bytes (2 * k + 1) * 256)
+
+-- The bytes make no words, for this reason: their number is odd, or there was no memory.
+abbrev pub NotPaired : List ℕ → Flaw → Type 0
+NotPaired bytes (NotBytes why) = why ≡ NoMemory
+NotPaired bytes OddBytes = length bytes % 2 ≡ 1
+NotPaired bytes (NotATag n) = ⊥
 
 -- The field's text stands for these words.
 abbrev pub FieldWords : List ℕ → List ℕ → Type 0
@@ -48,24 +40,13 @@ WrongTag text n = (bytes : List ℕ) × FieldBytes text bytes × (n ≡ length b
 
 -- The field's text stands for no tag, for this reason.
 abbrev pub NoTag : List ℕ → Flaw → Type 0
-NoTag text NoDigits = NoBytes text NoDigits
-NoTag text OddDigits = NoBytes text OddDigits
-NoTag text NotADigit = NoBytes text NotADigit
+NoTag text (NotBytes why) = reading.NoBytes text why ⊎ (why ≡ NoMemory)
 NoTag text OddBytes = ⊥
 NoTag text (NotATag n) = WrongTag text n
-NoTag text NoMemory = Unit {0}
-
--- How many blanks a text has.
-abbrev pub blanks : List ℕ → ℕ
-blanks text = count_by (λ c. nat_eq c 32) text
 
 -- The texts of the six fields, in their order.
 abbrev pub texts_of : Fields → List (List ℕ)
 texts_of f = f.key.now ∷ f.nonce.now ∷ f.masks.now ∷ f.plaintext.now ∷ f.wire.now ∷ f.tag.now ∷ []
-
--- The texts are the pieces of the line between its blanks: joined by blanks they are the line, and they are one more than it has blanks.
-abbrev pub Cut : List ℕ → List (List ℕ) → Type 0
-Cut line texts = (line ≡ join_with_byte 32 texts) × (length texts ≡ blanks line + 1)
 
 -- The line cut at each blank does not give six texts.
 abbrev pub NotCut : List ℕ → Malformed → Type 0

@@ -7,9 +7,9 @@ use Rattle.vectors.specs.declared.compare.Comparer.{Comparer}
 use Rattle.vectors.specs.declared.compare.Comparison.{Comparison}
 use Rattle.vectors.specs.declared.compare.Comparison.TheVariants.{Wire, SealedTag, Plaintext, OpenedTag}
 use Rattle.vectors.specs.declared.compare.Difference.{Difference}
-use Rattle.vectors.specs.declared.compare.Function.{Function}
-use Rattle.vectors.specs.declared.compare.Function.TheVariants.{FromKey, FilledTable, GivenTable, LazyOverKey, LazyTwice}
-use Rattle.vectors.specs.declared.compare.Multiplier.TheVariants.{PrintedTable, FieldRule}
+use Rattle.vectors.specs.declared.compare.FunctionName.{FunctionName}
+use Rattle.vectors.specs.declared.compare.FunctionName.TheVariants.{FromKey, FilledTable, GivenTable, LazyOverKey, LazyTwice}
+use Rattle.vectors.specs.declared.compare.CoefficientName.TheVariants.{PrintedTable, FieldRule}
 use Rattle.vectors.specs.declared.compare.Outcome.{Outcome}
 use Rattle.vectors.specs.declared.compare.Way.{Way}
 
@@ -92,11 +92,11 @@ abbrev pub Then : (List Difference → Type 0) → (List Difference → Type 0) 
 Then P Q part = (p : List Difference) × (q : List Difference) × P p × Q q × (part ≡ p ++ q)
 
 -- What differs with this function, at each coefficient in turn.
-abbrev pub Both : (ℕ → ℕ) → Vector → Function → List Difference → Type 0
-Both f v name = Then (One f v (record { function = name; multiplier = PrintedTable })) (One f v (record { function = name; multiplier = FieldRule }))
+abbrev pub Both : (ℕ → ℕ) → Vector → FunctionName → List Difference → Type 0
+Both f v name = Then (One f v (record { function = name; coefficient = PrintedTable })) (One f v (record { function = name; coefficient = FieldRule }))
 
 -- The same with the message's own key.
-abbrev pub Keyed : Vector → Function → List Difference → Type 0
+abbrev pub Keyed : Vector → FunctionName → List Difference → Type 0
 Keyed v = Both (key_function v) v
 
 -- What differs in the ways that compute from the key.

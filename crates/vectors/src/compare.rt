@@ -1,7 +1,8 @@
 //! A message sealed and opened in each of ten ways, and what differs from the message as it was given.
-ghost use Rattle.std.specs.Prelude.{◌≡◌, IfOk, Decides, OnOk};
+ghost use Rattle.std.specs.Prelude.{◌≡◌, Some, IfOk, Decides, OnOk};
 ghost use Rattle.sss.specs.Asked.{Asked};
 ghost use Rattle.vectors.specs.declared.compare.Stopped.TheVariants.{Refused, NoMemory};
+ghost use Rattle.vectors.specs.Texts.{function_text, coefficient_text, way_text, comparison_text, difference_text, part_text, stopped_text};
 ghost use Rattle.vectors.specs.Ways.{Made, Holds, NoneExactly, Noted, Finds, Both, FromKeyWays, TableWays, AllWays};
 
 use crate::vector::Vector;
@@ -9,11 +10,10 @@ use functions::{FieldRule, FilledTable, FromKey, GivenTable, LazyTable, PrintedT
 use sss::{Coefficient, Fault, KeyedFunction, MaskedWord};
 use std::alloc::{AllocError, AllocFailed, Global};
 use std::fmt;
-use thiserror::Error;
 
 /// An implementation of the keyed function.
 #[derive(Clone, Copy)]
-pub enum Function {
+pub enum FunctionName {
     FromKey,
     FilledTable,
     GivenTable,
@@ -21,30 +21,34 @@ pub enum Function {
     LazyTwice,
 }
 
-impl fmt::Display for Function {
+impl fmt::Display for FunctionName {
+    ghost output = { λ function. Some (function_text function) };
+
     fn fmt<W: fmt::Write>(&self, f: &mut fmt::Formatter<W>) -> fmt::Result {
         match self {
-            Function::FromKey => write!(f, "FromKey"),
-            Function::FilledTable => write!(f, "FilledTable"),
-            Function::GivenTable => write!(f, "GivenTable"),
-            Function::LazyOverKey => write!(f, "LazyTable over FromKey"),
-            Function::LazyTwice => write!(f, "LazyTable over LazyTable over FilledTable"),
+            FunctionName::FromKey => write!(f, "FromKey"),
+            FunctionName::FilledTable => write!(f, "FilledTable"),
+            FunctionName::GivenTable => write!(f, "GivenTable"),
+            FunctionName::LazyOverKey => write!(f, "LazyTable over FromKey"),
+            FunctionName::LazyTwice => write!(f, "LazyTable over LazyTable over FilledTable"),
         }
     }
 }
 
 /// An implementation of the coefficient.
 #[derive(Clone, Copy)]
-pub enum Multiplier {
+pub enum CoefficientName {
     PrintedTable,
     FieldRule,
 }
 
-impl fmt::Display for Multiplier {
+impl fmt::Display for CoefficientName {
+    ghost output = { λ coefficient. Some (coefficient_text coefficient) };
+
     fn fmt<W: fmt::Write>(&self, f: &mut fmt::Formatter<W>) -> fmt::Result {
         match self {
-            Multiplier::PrintedTable => write!(f, "PrintedTable"),
-            Multiplier::FieldRule => write!(f, "FieldRule"),
+            CoefficientName::PrintedTable => write!(f, "PrintedTable"),
+            CoefficientName::FieldRule => write!(f, "FieldRule"),
         }
     }
 }
@@ -52,15 +56,17 @@ impl fmt::Display for Multiplier {
 /// One way to seal and open.
 #[derive(Clone, Copy)]
 pub struct Way {
-    pub function: Function,
-    pub multiplier: Multiplier,
+    pub function: FunctionName,
+    pub coefficient: CoefficientName,
 }
 
 impl fmt::Display for Way {
+    ghost output = { λ way. Some (way_text way) };
+
     fn fmt<W: fmt::Write>(&self, f: &mut fmt::Formatter<W>) -> fmt::Result {
         let function = self.function;
-        let multiplier = self.multiplier;
-        write!(f, "{function} with {multiplier}")
+        let coefficient = self.coefficient;
+        write!(f, "{function} with {coefficient}")
     }
 }
 
@@ -84,6 +90,8 @@ impl Comparison {
 }
 
 impl fmt::Display for Comparison {
+    ghost output = { λ comparison. Some (comparison_text comparison) };
+
     fn fmt<W: fmt::Write>(&self, f: &mut fmt::Formatter<W>) -> fmt::Result {
         match self {
             Comparison::Wire => write!(f, "the sealed words differ from the wire"),
@@ -102,6 +110,8 @@ pub struct Difference {
 }
 
 impl fmt::Display for Difference {
+    ghost output = { λ difference. Some (difference_text difference) };
+
     fn fmt<W: fmt::Write>(&self, f: &mut fmt::Formatter<W>) -> fmt::Result {
         let way = self.way;
         let comparison = self.comparison;
@@ -110,14 +120,27 @@ impl fmt::Display for Difference {
 }
 
 /// Why a message was not compared.
-#[derive(Clone, Copy, Debug, Error)]
+#[derive(Clone, Copy, Debug)]
 pub enum Stopped {
     /// The library refused the key, the table or the nonce.
-    #[error("{refused} is refused, fault {number}", refused = refused(.0), number = .0.number())]
     Refused(Fault),
     /// There was no memory to work in.
-    #[error("no memory to compare it")]
     NoMemory,
+}
+
+impl fmt::Display for Stopped {
+    ghost output = { λ why. Some (stopped_text why) };
+
+    fn fmt<W: fmt::Write>(&self, f: &mut fmt::Formatter<W>) -> fmt::Result {
+        match self {
+            Stopped::Refused(fault) => {
+                let part = part(fault);
+                let number = fault.number();
+                write!(f, "{part} is refused, fault {number}")
+            }
+            Stopped::NoMemory => write!(f, "no memory to compare it"),
+        }
+    }
 }
 
 // Which of the two comes of which error is promised by `from_gives`, which no derive writes.
@@ -146,7 +169,9 @@ impl<T: Drop> From<AllocFailed<T>> for Stopped {
 }
 
 /// The part of a message that a fault is about.
-fn refused(fault: &Fault) -> &'static str {
+fn part(fault: &Fault) -> &'static str
+    ensures { result.now ≡ part_text fault.now }
+{
     match fault {
         Fault::Key => "the key",
         Fault::Table => "the table",
@@ -226,14 +251,18 @@ impl Comparer<'_> {
 
     /// Seals and opens the message with both coefficients, and adds what differs.
     // The two halves differ in a type and in its name: a function of one way, with its contract, is longer than both.
-    fn two_ways<K: KeyedFunction>(&mut self, f: &mut K, function: Function) -> Result<(), Stopped>
+    fn two_ways<K: KeyedFunction>(
+        &mut self,
+        f: &mut K,
+        function: FunctionName,
+    ) -> Result<(), Stopped>
         ensures { Asked K.KeyedFunction f.old f.new (λ g. OnOk result (Finds (λ v. Both g v function) self.old self.new)) }
     {
         let printed = Outcome::of(*self.found.allocator(), f, &PrintedTable, self.vector)?;
         self.note(
             Way {
                 function,
-                multiplier: Multiplier::PrintedTable,
+                coefficient: CoefficientName::PrintedTable,
             },
             &printed,
         )?;
@@ -241,7 +270,7 @@ impl Comparer<'_> {
         self.note(
             Way {
                 function,
-                multiplier: Multiplier::FieldRule,
+                coefficient: CoefficientName::FieldRule,
             },
             &ruled,
         )?;
@@ -254,25 +283,23 @@ impl Comparer<'_> {
     fn ways_from_key(&mut self) -> Result<(), Stopped>
         ensures { OnOk result (Finds FromKeyWays self.old self.new) }
     {
-        let mut computed = FromKey::new();
-        computed.load(&self.vector.key)?;
-        self.two_ways(&mut computed, Function::FromKey)?;
+        let mut computed = FromKey::of(&self.vector.key)?;
+        self.two_ways(&mut computed, FunctionName::FromKey)?;
         let mut lazy = LazyTable::new(computed);
-        self.two_ways(&mut lazy, Function::LazyOverKey)
+        self.two_ways(&mut lazy, FunctionName::LazyOverKey)
     }
 
     /// The ways that look the keyed function up in a filled table.
     fn ways_from_table(&mut self) -> Result<(), Stopped>
         ensures { OnOk result (Finds TableWays self.old self.new) }
     {
-        let mut filled = FilledTable::new();
-        filled.load(&self.vector.key)?;
-        self.two_ways(&mut filled, Function::FilledTable)?;
+        let mut filled = FilledTable::of(&self.vector.key)?;
+        self.two_ways(&mut filled, FunctionName::FilledTable)?;
         let mut given = GivenTable::new();
         given.load(filled.entries())?;
-        self.two_ways(&mut given, Function::GivenTable)?;
+        self.two_ways(&mut given, FunctionName::GivenTable)?;
         let mut lazy = LazyTable::new(LazyTable::new(filled));
-        self.two_ways(&mut lazy, Function::LazyTwice)
+        self.two_ways(&mut lazy, FunctionName::LazyTwice)
     }
 }
 

@@ -1,38 +1,49 @@
 //! What can be wrong with one field of a line.
-ghost use Rattle.std.specs.Prelude.{◌≡◌};
-ghost use Rattle.vectors.specs.declared.flaw.Flaw.TheVariants.{NoMemory};
+ghost use Rattle.std.specs.Prelude.{◌≡◌, Some};
+ghost use Rattle.fields.specs.declared.reading.NotBytes.TheVariants.{NoMemory};
+ghost use Rattle.vectors.specs.declared.flaw.Flaw.TheVariants as flaw;
+ghost use Rattle.vectors.specs.Texts.{flaw_text};
 
+use fields::NotBytes;
 use std::alloc::AllocError;
-use thiserror::Error;
+use std::fmt;
 
 /// What is wrong with one field.
-#[derive(Clone, Copy, Debug, Error)]
+#[derive(Clone, Copy, Debug)]
 pub enum Flaw {
-    /// The field has no character at all.
-    #[error("no digits, where an empty field is written -")]
-    NoDigits,
-    /// The last digit has no partner.
-    #[error("an odd number of digits")]
-    OddDigits,
-    /// A character is not one of `0` to `9` and `a` to `f`.
-    #[error("a digit that is not hex")]
-    NotADigit,
+    /// The text is not bytes in hex, or there was no memory to hold them.
+    NotBytes(NotBytes),
     /// The last byte has no partner to make a word with.
-    #[error("an odd number of bytes in a field of words")]
     OddBytes,
     /// A tag of this many bytes, which is not sixteen.
-    #[error("{0} bytes instead of 16")]
     NotATag(usize),
-    /// There was no memory to hold the field.
-    #[error("no memory to read it")]
-    NoMemory,
+}
+
+impl fmt::Display for Flaw {
+    ghost output = { λ flaw. Some (flaw_text flaw) };
+
+    fn fmt<W: fmt::Write>(&self, f: &mut fmt::Formatter<W>) -> fmt::Result {
+        match self {
+            Flaw::NotBytes(why) => write!(f, "{why}"),
+            Flaw::OddBytes => write!(f, "an odd number of bytes in a field of words"),
+            Flaw::NotATag(length) => write!(f, "{length} bytes instead of 16"),
+        }
+    }
 }
 
 // The contracts name the flaw that `?` makes, and are not proved without `from_gives`, which no derive writes.
+impl From<NotBytes> for Flaw {
+    ghost from_gives = { λ why r. r ≡ flaw.NotBytes why };
+
+    fn from(why: NotBytes) -> Flaw {
+        Flaw::NotBytes(why)
+    }
+}
+
 impl From<AllocError> for Flaw {
-    ghost from_gives = { λ _ r. r ≡ NoMemory };
+    ghost from_gives = { λ _ r. r ≡ flaw.NotBytes NoMemory };
 
     fn from(_e: AllocError) -> Flaw {
-        Flaw::NoMemory
+        Flaw::NotBytes(NotBytes::NoMemory)
     }
 }

@@ -1,83 +1,110 @@
 //! Seals and opens the messages of another program, read from standard input, and reports where the two differ.
 #![tactic(auto)]
 
-ghost use Rattle.std.specs.Prelude.{◌≡◌};
+ghost use Rattle.std.specs.Prelude.{◌≡◌, OnOk};
+ghost use Rattle.std.specs.Io.KnownBytes.{Appends};
+ghost use Rattle.fields.specs.Texts.{numbered};
 ghost use Rattle.vectors.specs.Counts.{Counted, Taken};
+ghost use Rattle.vectors.specs.Reports.{Compared, Prints, Told};
 ghost use Rattle.vectors.specs.Tallies.{after_malformed};
+ghost use Rattle.vectors.specs.Texts.{malformed_text};
 
 mod compare;
 mod flaw;
-mod hex;
 mod mask;
 mod report;
 mod vector;
+mod words;
 
 use report::Tally;
+use std::alloc::Global;
 use std::io;
-use std::io::{BufRead, BufReader};
+use std::io::{BufRead, BufReader, Read, Write};
 use vector::{Malformed, Vector};
 
 /// How many messages are printed in full.
 const SHOWN: usize = 5;
 
-// The runtime, a line's number and the tally are passed one by one: a struct of two references and a number would be no plainer for three short functions.
+// A line's number, the tally and the writer are passed one by one: a struct of a number and two references would be no plainer for three short functions.
 /// Reports a line that is not a message.
-fn malformed(rt: &HostRuntime, number: usize, why: Malformed, tally: &mut Tally) -> io::Result<()>
+fn malformed<W: Write>(
+    number: usize,
+    why: Malformed,
+    tally: &mut Tally,
+    writer: &mut W,
+) -> io::Result<()>
     ensures after { tally.new ≡ after_malformed tally.old }
+    ensures printed { OnOk result (Appends (W.contents writer.old) (W.contents writer.new) (numbered number (malformed_text why))) }
 {
     tally.malformed();
-    println!(rt; "line {number}: {why}")
+    writeln!(writer, "line {number}: {why}")
 }
 
 /// Seals and opens a message in every way, counts it, and reports what differs.
-fn compared(rt: &HostRuntime, number: usize, vector: &Vector, tally: &mut Tally) -> io::Result<()>
+fn compared<W: Write>(
+    heap: Global,
+    number: usize,
+    vector: &Vector,
+    tally: &mut Tally,
+    writer: &mut W,
+) -> io::Result<()>
     ensures after { Counted vector.now tally.old tally.new }
+    ensures printed { OnOk result (Prints (Compared number vector.now tally.old tally.new) (W.contents writer.old) (W.contents writer.new)) }
 {
     let words = vector.wire.len();
     let shown = tally.messages < SHOWN;
-    match compare::differences(rt.alloc(), vector) {
+    match compare::differences(heap, vector) {
         Ok(found) => {
             tally.compared(words, found.is_empty());
-            if shown {
-                report::heading(rt, number, vector, &found)?;
-            }
-            report::differences(rt, number, &found)
+            report::comparison(writer, number, vector, shown, &found)
         }
         Err(why) => {
             tally.refused(words);
-            println!(rt; "line {number}: {why}")
+            writeln!(writer, "line {number}: {why}")
         }
     }
 }
 
 /// Takes one line of the input.
-fn take(rt: &HostRuntime, number: usize, line: &[u8], tally: &mut Tally) -> io::Result<()>
+fn take<W: Write>(
+    heap: Global,
+    number: usize,
+    line: &[u8],
+    tally: &mut Tally,
+    writer: &mut W,
+) -> io::Result<()>
     ensures after { Taken line.now tally.old tally.new }
+    ensures printed { OnOk result (Prints (Told number line.now tally.old tally.new) (W.contents writer.old) (W.contents writer.new)) }
 {
-    match Vector::parse(rt.alloc(), line) {
-        Ok(vector) => compared(rt, number, &vector, tally),
-        Err(why) => malformed(rt, number, why, tally),
+    match Vector::parse(heap, line) {
+        Ok(vector) => compared(heap, number, &vector, tally, writer),
+        Err(why) => malformed(number, why, tally, writer),
     }
 }
 
-fn main(rt: HostRuntime) -> io::Result<()> {
-    report::figures(&rt, functions::self_test())?;
+/// Takes each line of an input, and reports at the end how many messages differ.
+fn take_all<R: Read + Drop, W: Write>(heap: Global, reader: R, writer: &mut W) -> io::Result<()> {
+    report::figures(writer, functions::self_test())?;
     let mut tally = Tally::new();
     // Counted here and not by `enumerate`: nothing bounds how many lines come, and the number stays at the largest one.
     let mut number = 0usize;
     // The number of an empty line after which no line has come: it is no message where the input ends there.
     let mut held = None;
-    for read in BufReader::new(rt.alloc(), rt.stdin())?.split(rt.alloc(), b'\n') {
+    for read in BufReader::new(heap, reader)?.split(heap, b'\n') {
         let line = read?;
         number = number.saturating_add(1);
         if let Some(empty) = held.take() {
-            take(&rt, empty, b"", &mut tally)?;
+            take(heap, empty, b"", &mut tally, writer)?;
         }
         if line.is_empty() {
             held = Some(number);
         } else {
-            take(&rt, number, line.as_slice(), &mut tally)?;
+            take(heap, number, line.as_slice(), &mut tally, writer)?;
         }
     }
-    report::summary(&rt, tally)
+    report::summary(writer, tally)
+}
+
+fn main(rt: HostRuntime) -> io::Result<()> {
+    take_all(rt.alloc(), rt.reader(), &mut rt.stdout())
 }

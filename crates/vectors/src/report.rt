@@ -1,11 +1,16 @@
 //! What the program prints, and the counts that it keeps.
-ghost use Rattle.std.specs.Prelude.{◌≡◌};
+ghost use Rattle.std.specs.Prelude.{◌≡◌, OnOk, cond, codes};
+ghost use Rattle.std.specs.Io.KnownBytes.{Appends};
+ghost use Rattle.vectors.specs.Reports.{figures_text, differences_text, heading_text, comparison_text, summary_text};
 ghost use Rattle.vectors.specs.Tallies.{fresh, after_malformed, after_refused, after_compared};
 
-use crate::compare::{Difference, Function, Multiplier};
-use crate::mask::MaskKind;
+use crate::compare::{CoefficientName, Difference, FunctionName};
+use crate::mask;
 use crate::vector::Vector;
-use std::{fmt, io};
+use fields::{Hex, Tag};
+use sss::MaskKind;
+use std::io;
+use std::io::Write;
 
 /// How many messages were seen, and what came of them.
 #[derive(Clone, Copy, Default)]
@@ -60,63 +65,76 @@ impl Tally {
     }
 }
 
-/// Bytes to print in hex, `-` for none.
-// The other program prints hex too, and never none: a crate between the two for these lines is no plainer.
-#[derive(Clone, Copy)]
-struct Hex<'a>(&'a [u8]);
-
-impl fmt::Display for Hex<'_> {
-    fn fmt<W: fmt::Write>(&self, f: &mut fmt::Formatter<W>) -> fmt::Result {
-        if self.0.is_empty() {
-            return write!(f, "-");
-        }
-        for byte in self.0 {
-            write!(f, "{byte:02x}")?;
-        }
-        Ok(())
-    }
+/// How many of the known figures are as published.
+fn extent(hold: bool) -> &'static str
+    ensures { result.now ≡ cond hold (codes "all") (codes "NOT") }
+{
+    if hold { "all" } else { "NOT" }
 }
 
 /// Prints whether the library works out the known figures.
-pub(crate) fn figures(rt: &HostRuntime, hold: bool) -> io::Result<()> {
-    let extent = if hold { "all" } else { "NOT" };
-    println!(rt; "known figures of the cipher: {extent} as published")
+pub(crate) fn figures<W: Write>(writer: &mut W, hold: bool) -> io::Result<()>
+    ensures { OnOk result (Appends (W.contents writer.old) (W.contents writer.new) (figures_text hold)) }
+{
+    let extent = extent(hold);
+    writeln!(writer, "known figures of the cipher: {extent} as published")
 }
 
 /// Prints what differs from a message.
-pub(crate) fn differences(rt: &HostRuntime, number: usize, found: &[Difference]) -> io::Result<()> {
+fn differences<W: Write>(writer: &mut W, number: usize, found: &[Difference]) -> io::Result<()>
+    ensures { OnOk result (Appends (W.contents writer.old) (W.contents writer.new) (differences_text number found.now)) }
+{
     for difference in found {
-        println!(rt; "line {number}: {difference}")?;
+        writeln!(writer, "line {number}: {difference}")?;
     }
     Ok(())
 }
 
+/// Whether a message agrees.
+fn verdict(agrees: bool) -> &'static str
+    ensures { result.now ≡ cond agrees (codes "agree") (codes "do not agree") }
+{
+    if agrees { "agree" } else { "do not agree" }
+}
+
 /// Prints what a message is made of, and whether it agrees.
-pub(crate) fn heading(
-    rt: &HostRuntime,
-    number: usize,
-    vector: &Vector,
-    found: &[Difference],
-) -> io::Result<()> {
+fn heading<W: Write>(writer: &mut W, number: usize, vector: &Vector, agrees: bool) -> io::Result<()>
+    ensures { OnOk result (Appends (W.contents writer.old) (W.contents writer.new) (heading_text number vector.now agrees)) }
+{
     let length = vector.key.len();
     let nonce = Hex(&vector.nonce);
-    let sealed = MaskKind::Sealed.count(&vector.plaintext);
-    let unsealed = MaskKind::Open.count(&vector.plaintext);
-    let part = MaskKind::Part.count(&vector.plaintext);
-    let tag = vector.tag.map(|word| word.to_le_bytes());
-    let tag = Hex(tag.as_flattened());
-    let verdict = if found.is_empty() {
-        "agree in all 10 ways"
-    } else {
-        "do not agree in all 10 ways"
-    };
-    println!(rt;
-        "line {number}: key {length} bytes, nonce {nonce}, words {sealed} sealed {unsealed} open {part} part, tag {tag}; wire, plaintext and tag {verdict}"
+    let sealed = mask::count(MaskKind::Sealed, &vector.plaintext);
+    let unsealed = mask::count(MaskKind::Open, &vector.plaintext);
+    let part = mask::count(MaskKind::Part, &vector.plaintext);
+    let tag = Tag(vector.tag);
+    let verdict = verdict(agrees);
+    writeln!(
+        writer,
+        "line {number}: key {length} bytes, nonce {nonce}, words {sealed} sealed {unsealed} open {part} part, tag {tag}; wire, plaintext and tag {verdict} in all 10 ways"
     )
 }
 
+/// Prints what comparing a message found, and where it is shown what it is made of.
+pub(crate) fn comparison<W: Write>(
+    writer: &mut W,
+    number: usize,
+    vector: &Vector,
+    shown: bool,
+    found: &[Difference],
+) -> io::Result<()>
+    ensures { OnOk result (Appends (W.contents writer.old) (W.contents writer.new) (comparison_text number vector.now shown found.now)) }
+{
+    if !shown {
+        return differences(writer, number, found);
+    }
+    heading(writer, number, vector, found.is_empty())?;
+    differences(writer, number, found)
+}
+
 /// Prints the end of the report.
-pub(crate) fn summary(rt: &HostRuntime, tally: Tally) -> io::Result<()> {
+pub(crate) fn summary<W: Write>(writer: &mut W, tally: Tally) -> io::Result<()>
+    ensures { OnOk result (Appends (W.contents writer.old) (W.contents writer.new) (summary_text tally)) }
+{
     let Tally {
         messages,
         words,
@@ -124,20 +142,25 @@ pub(crate) fn summary(rt: &HostRuntime, tally: Tally) -> io::Result<()> {
         compared,
         worked,
     } = tally;
-    println!(rt; "{compared} messages with {worked} words sealed and opened in each of 10 ways")?;
-    println!(rt;
+    writeln!(
+        writer,
+        "{compared} messages with {worked} words sealed and opened in each of 10 ways"
+    )?;
+    writeln!(
+        writer,
         "keyed functions: {}, {}, {}, {}, {}",
-        Function::FromKey,
-        Function::FilledTable,
-        Function::GivenTable,
-        Function::LazyOverKey,
-        Function::LazyTwice
+        FunctionName::FromKey,
+        FunctionName::FilledTable,
+        FunctionName::GivenTable,
+        FunctionName::LazyOverKey,
+        FunctionName::LazyTwice
     )?;
-    println!(rt;
+    writeln!(
+        writer,
         "coefficients: {}, {}",
-        Multiplier::PrintedTable,
-        Multiplier::FieldRule
+        CoefficientName::PrintedTable,
+        CoefficientName::FieldRule
     )?;
-    println!(rt; "{differ} messages differ")?;
-    println!(rt; "messages {messages} words {words} differ {differ}")
+    writeln!(writer, "{differ} messages differ")?;
+    writeln!(writer, "messages {messages} words {words} differ {differ}")
 }

@@ -1,16 +1,19 @@
 //! A line of the input as a message: its six fields, read from hex.
-ghost use Rattle.std.specs.Prelude.{◌≡◌, ◌+◌, map, length, IfOk, vec_len, MatchResult};
-ghost use Rattle.std.specs.List.{join_with_byte};
-ghost use Rattle.vectors.specs.Fields.{FieldBytes, NoBytes, FieldWords, NoWords, NoTag, Cut, blanks, texts_of, NotCut, mask_of, text_of};
-ghost use Rattle.vectors.specs.Lines.{placed, Reads, NotRead, Parses, NotParsed};
-ghost use Rattle.vectors.specs.declared.vector.Malformed.TheVariants.{NoMemory};
+ghost use Rattle.std.specs.Prelude.{◌≡◌, Some, map, length, IfOk, MatchResult};
+ghost use Rattle.fields.specs.Cutting.{Cut};
+ghost use Rattle.fields.specs.Placing.{placed};
+ghost use Rattle.fields.specs.Reading.{FieldBytes};
+ghost use Rattle.sss.specs.Directions.{mask_of, text_of};
+ghost use Rattle.vectors.specs.Fields.{NoBytes, FieldWords, NoWords, NoTag, texts_of, NotCut};
+ghost use Rattle.vectors.specs.Lines.{Reads, NotRead, Parses, NotParsed};
+ghost use Rattle.vectors.specs.Texts.{field_text, malformed_text};
+ghost use Rattle.vectors.specs.declared.vector.Malformed.TheVariants.{InField, NoMemory};
 
 use crate::flaw::Flaw;
-use crate::hex;
+use crate::words;
 use sss::MaskedWord;
 use std::alloc::{AllocError, Global};
 use std::fmt;
-use thiserror::Error;
 
 /// A field of a line.
 #[derive(Clone, Copy, Debug)]
@@ -24,6 +27,8 @@ pub enum Field {
 }
 
 impl fmt::Display for Field {
+    ghost output = { λ field. Some (field_text field) };
+
     fn fmt<W: fmt::Write>(&self, f: &mut fmt::Formatter<W>) -> fmt::Result {
         match self {
             Field::Key => write!(f, "key"),
@@ -37,23 +42,35 @@ impl fmt::Display for Field {
 }
 
 /// Why a line is not a message.
-#[derive(Clone, Copy, Debug, Error)]
+#[derive(Clone, Copy, Debug)]
 pub enum Malformed {
     /// The line is not UTF-8.
-    #[error("not text")]
     NotText,
     /// The line has this many fields, which is not six.
-    #[error("6 fields are wanted, and it has {0}")]
     Fields(usize),
-    /// One field is at fault.
-    #[error("field {0}: {1}")]
+    /// One field is flawed.
     InField(Field, Flaw),
     /// Masks, plaintext and wire have not the same number of words.
-    #[error("fields masks, plaintext and wire are of different lengths")]
     Lengths,
     /// There was no memory to hold the line.
-    #[error("no memory to read it")]
     NoMemory,
+}
+
+impl fmt::Display for Malformed {
+    ghost output = { λ why. Some (malformed_text why) };
+
+    fn fmt<W: fmt::Write>(&self, f: &mut fmt::Formatter<W>) -> fmt::Result {
+        match self {
+            Malformed::NotText => write!(f, "not text"),
+            Malformed::Fields(count) => write!(f, "6 fields are wanted, and it has {count}"),
+            Malformed::InField(field, flaw) => write!(f, "field {field}: {flaw}"),
+            Malformed::Lengths => write!(
+                f,
+                "fields masks, plaintext and wire are of different lengths"
+            ),
+            Malformed::NoMemory => write!(f, "no memory to read it"),
+        }
+    }
 }
 
 // The contracts name the error that `?` makes, and are not proved without `from_gives`, which no derive writes.
@@ -79,20 +96,12 @@ pub struct Fields<'a> {
 
 // The allocator comes to each function that makes a list, as the library's own calls take it: a struct of it and the text would be made for each field.
 
-/// The pieces of a line between its blanks.
-fn pieces<'a>(heap: Global, line: &'a str) -> Result<Vec<&'a str>, AllocError>
-    ensures joined { IfOk result (λ v. line.now ≡ join_with_byte 32 (map (λ x. x.now) v.items)) }
-    ensures count { IfOk result (λ v. vec_len v ≡ blanks line.now + 1) }
-{
-    line.split(' ').collect(heap)
-}
-
 impl<'a> Fields<'a> {
     /// Cuts a line at each blank.
     pub(crate) fn cut(heap: Global, line: &'a str) -> Result<Fields<'a>, Malformed>
         ensures value { MatchResult result (λ f. Cut line.now (texts_of f)) (NotCut line.now) }
     {
-        let texts = pieces(heap, line)?;
+        let texts = fields::pieces(heap, line)?;
         let [key, nonce, masks, plaintext, wire, tag] = *texts.as_slice() else {
             return Err(Malformed::Fields(texts.len()));
         };
@@ -111,30 +120,26 @@ impl<'a> Fields<'a> {
 fn field_bytes(heap: Global, text: &str) -> Result<Vec<u8>, Flaw>
     ensures value { MatchResult result (λ v. FieldBytes text.now v.items) (NoBytes text.now) }
 {
-    match text.as_bytes() {
-        [] => Err(Flaw::NoDigits),
-        [b'-'] => Ok(Vec::new(heap)),
-        digits => hex::bytes(heap, digits),
-    }
+    fields::bytes(heap, text).map_err(Flaw::NotBytes)
 }
 
 /// The words of a field, where `-` is none.
 fn field_words(heap: Global, text: &str) -> Result<Vec<u16>, Flaw>
     ensures value { MatchResult result (λ v. FieldWords text.now v.items) (NoWords text.now) }
 {
-    let bytes = field_bytes(heap, text)?;
-    hex::words(heap, &bytes)
+    let bytes = fields::bytes(heap, text)?;
+    words::from_bytes(heap, &bytes)
 }
 
 /// The eight words of a tag's field.
 fn field_tag(heap: Global, text: &str) -> Result<[u16; 8], Flaw>
     ensures value { MatchResult result (λ t. FieldWords text.now t) (NoTag text.now) }
 {
-    let bytes = field_bytes(heap, text)?;
+    let bytes = fields::bytes(heap, text)?;
     if bytes.len() != 16 {
         return Err(Flaw::NotATag(bytes.len()));
     }
-    let words = hex::words(heap, &bytes)?;
+    let words = words::from_bytes(heap, &bytes)?;
     Ok(<[u16; 8]>::try_from(words.as_slice()).unwrap())
 }
 
@@ -154,9 +159,9 @@ fn masked(heap: Global, masks: &[u16], texts: &[u16]) -> Result<Vec<MaskedWord>,
         .collect(heap)
 }
 
-/// A field's fault as the line's.
+/// A field's flaw as the line's.
 fn in_field<T>(field: Field, read: Result<T, Flaw>) -> Result<T, Malformed>
-    ensures value { result ≡ placed field read }
+    ensures value { result ≡ placed (InField field) read }
 {
     read.map_err(|flaw| Malformed::InField(field, flaw))
 }

@@ -1,12 +1,12 @@
 -- A message of one word as the published cipher has it, with the printed coefficient.
 use Rattle.std.specs.Prelude.{◌≡◌, ℕ, List, [], ◌∷◌}
-use Rattle.sss.specs.Cipher.{key_table, keyed, message_tag, product, sealed_message}
+use Rattle.sss.specs.Cipher.{key_table, keyed, message_tag, product, sealed_mask, sealed_message}
 use Rattle.sss.specs.declared.message.MaskedWord.{MaskedWord}
 use Rattle.weld.specs.declared.spot.SpotCheck.{SpotCheck}
 
 -- One word, every bit of which is sealed.
 abbrev pub one_sealed : ℕ → List MaskedWord
-one_sealed word = record { mask = 0xFFFF; text = word } ∷ []
+one_sealed word = record { mask = sealed_mask; text = word } ∷ []
 
 -- The wire word and the tag of a message of one plaintext word, by its key and its nonce.
 pub record SealedAlone (key nonce : List ℕ) (word : ℕ) (s : SpotCheck) : Type 0 where

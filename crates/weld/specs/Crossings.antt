@@ -4,8 +4,8 @@ use Rattle.std.specs.List.{zip}
 use Rattle.link.specs.declared.call.Call.{Call}
 use Rattle.link.specs.declared.history.History.{History}
 use Rattle.weld.specs.Joint.{CarriesAcross}
-use Rattle.weld.specs.Runs.{IsRunOf, the_key}
-use Rattle.weld.specs.Scenario.{messages_from}
+use Rattle.weld.specs.Runs.{IsRunOf}
+use Rattle.weld.specs.Scenario.{messages_from, the_key, the_run}
 use Rattle.weld.specs.declared.scenario.Plan.{Plan}
 
 -- The run is that of the calls which seal the messages of these plans, and of what the joint carries of them. Wire words and tags are carried as
@@ -13,6 +13,6 @@ use Rattle.weld.specs.declared.scenario.Plan.{Plan}
 pub record Crosses {SK SC RK RC : Type 0} (plans : List Plan) (run first : ℕ) (h : History SK SC RK RC) : Type 0 where
   pub alone : History SK SC RK RC
   pub calls : List Call
-  pub sealed : IsRunOf the_key (messages_from 1207 0 plans) alone
+  pub sealed : IsRunOf the_key (messages_from the_run 0 plans) alone
   pub carried : CarriesAcross plans (zip (messages_from run first plans) (vec_items alone.log)) calls
   pub made : IsRunOf the_key calls h

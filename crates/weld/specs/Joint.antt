@@ -39,13 +39,21 @@ ComesOfCall Abandoned fate call = call ≡ None
 ComesOfCall (Refused mask plain fault) fate call = ⊥
 ComesOfCall (OutOfTurn call') fate call = ⊥
 
--- The words of all messages, each by its plan and its place.
+-- The first words of a message, each by its plan and its place.
+abbrev pub first_words : Plan → ℕ → List (Plan × ℕ)
+first_words plan n = map (λ place. (plan, place)) (range_with_len 0 n)
+
+-- The words of all messages.
 abbrev pub words_of : List Plan → List (Plan × ℕ)
-words_of plans = flat_map (λ plan. map (λ place. (plan, place)) (range_with_len 0 plan.words)) plans
+words_of plans = flat_map (λ plan. first_words plan plan.words) plans
 
 -- The fates are those of the words, in order.
 abbrev pub AreFates : List (Plan × ℕ) → List Fate → Type 0
 AreFates words fates = AllZip (λ word fate. IsFateAt word.0 word.1 fate) words fates
+
+-- Where the fates before are those of some words, the fates after are those of the same words and then of the words of this message.
+abbrev pub AddsFates : Plan → (before after : List Fate) → Type 0
+AddsFates plan before after = (words : List (Plan × ℕ)) → AreFates words before → AreFates (words ++ first_words plan plan.words) after
 
 -- The fate of the next word. Where no fate is left, words come as they were sent.
 abbrev pub next_fate : List Fate → Fate

@@ -40,7 +40,7 @@ told event.Break = broken_off
 told (event.Ended tag verdict) = ended tag verdict
 told event.Abandoned = abandoned
 
--- Readings of words in a row, from a place on.
+-- Readings of consecutive words, from a place on.
 abbrev pub readings_from : (place mask : ℕ) → List ℕ → List Telling
 readings_from place mask [] = []
 readings_from place mask (reading ∷ readings) = right place mask reading ∷ readings_from (place + 1) mask readings

@@ -13,57 +13,57 @@ use Rattle.weld.specs.declared.passage.Sent.{Sent}
 
 -- A log read so far, which is what a reader of the code stands for: how many messages were begun, the place of the next word, the latest word
 -- sent as long as nothing came after it, and what was seen.
-pub record Reading : Type 0 where
+pub record ReadSoFar : Type 0 where
   pub begun : ℕ
   pub place : ℕ
   pub pending : Option Sent
   pub seen : List Event
 
 -- Nothing is read yet.
-abbrev pub unread : Reading
+abbrev pub unread : ReadSoFar
 unread = record { begun = 0; place = 0; pending = None; seen = [] }
 
 -- One thing more is seen.
-abbrev pub seeing : Event → Reading → Reading
+abbrev pub seeing : Event → ReadSoFar → ReadSoFar
 seeing e s = record { begun = s.begun; place = s.place; pending = s.pending; seen = s.seen ++ e ∷ [] }
 
 -- No word is under way.
-abbrev pub none_pending : Reading → Reading
+abbrev pub none_pending : ReadSoFar → ReadSoFar
 none_pending s = record { begun = s.begun; place = s.place; pending = None; seen = s.seen }
 
 -- Something else happens than that the word sent is received: the word is lost.
-abbrev pub settled_by : Option Sent → Reading → Reading
+abbrev pub settled_by : Option Sent → ReadSoFar → ReadSoFar
 settled_by None s = none_pending s
 settled_by (Some w) s = seeing (Word w None) (none_pending s)
 
 -- The same of the word that is under way, if there is one.
-abbrev pub settled : Reading → Reading
+abbrev pub settled : ReadSoFar → ReadSoFar
 settled s = settled_by s.pending s
 
 -- A message is begun.
-abbrev pub message_begun : List ℕ → Reading → Reading
+abbrev pub message_begun : List ℕ → ReadSoFar → ReadSoFar
 message_begun nonce s =
     let n : ℕ = min (s.begun + 1) (2 ^ 64 - 1) in
     record { begun = n; place = 0; pending = s.pending; seen = s.seen ++ Begun n nonce ∷ [] }
 
 -- A word is sent: it is under way.
-abbrev pub word_sent : (mask plain wire : ℕ) → Reading → Reading
+abbrev pub word_sent : (mask plain wire : ℕ) → ReadSoFar → ReadSoFar
 word_sent mask plain wire s =
     let w : Sent = record { place = s.place; mask = mask; plain = plain; wire = wire } in
     record { begun = s.begun; place = min (s.place + 1) (2 ^ 16 - 1); pending = Some w; seen = s.seen }
 
 -- A word is received: it is the one under way, with its own wire word or another.
-abbrev pub received_by : Option Sent → ℕ → Answer → Reading → Reading
+abbrev pub received_by : Option Sent → ℕ → Answer → ReadSoFar → ReadSoFar
 received_by None wire answer s = s
 received_by (Some w) wire answer s =
     seeing (Word w (Some answer)) (cond (wire == w.wire) (none_pending s) (seeing (Altered w wire) (none_pending s)))
 
 -- The same of the word that is under way.
-abbrev pub word_received : ℕ → Answer → Reading → Reading
+abbrev pub word_received : ℕ → Answer → ReadSoFar → ReadSoFar
 word_received wire answer s = received_by s.pending wire answer s
 
 -- An entry of the sealer more. Refused calls and calls out of turn are in no log that is read to its end.
-abbrev pub sealer_noted : Reading → SealerEntry → Reading
+abbrev pub sealer_noted : ReadSoFar → SealerEntry → ReadSoFar
 sealer_noted s (sealer.Begun nonce) = message_begun nonce (settled s)
 sealer_noted s (sealer.Sealed mask plain wire) = word_sent mask plain wire (settled s)
 sealer_noted s (sealer.Refused mask plain fault) = s
@@ -72,7 +72,7 @@ sealer_noted s sealer.Abandoned = seeing Abandoned (settled s)
 sealer_noted s (sealer.OutOfTurn call) = s
 
 -- An entry of the receiver more.
-abbrev pub receiver_noted : Reading → ReceiverEntry → Reading
+abbrev pub receiver_noted : ReadSoFar → ReceiverEntry → ReadSoFar
 receiver_noted s (receiver.Begun nonce) = s
 receiver_noted s (receiver.Refused nonce fault) = s
 receiver_noted s (receiver.Received mask wire answer) = word_received wire answer s
@@ -80,7 +80,7 @@ receiver_noted s receiver.BrokenOff = seeing Break (settled s)
 receiver_noted s (receiver.Finished tag verdict) = seeing (Ended tag verdict) (settled s)
 
 -- An entry of either end.
-abbrev pub noted : Reading → Entry → Reading
+abbrev pub noted : ReadSoFar → Entry → ReadSoFar
 noted s (OfSealer e) = sealer_noted s e
 noted s (OfReceiver e) = receiver_noted s e
 

@@ -1,5 +1,5 @@
 -- The law of a loss for the runs of this program: both ends have one key and the one coefficient.
-use Rattle.std.specs.Prelude.{◌≡◌, ℕ, List, [], ◌∷◌, vec_items}
+use Rattle.std.specs.Prelude.{◌≡◌, ℕ, List, vec_items}
 use Rattle.sss.specs.Cipher.{key_table, keyed, product}
 use Rattle.link.specs.Ends.{history, receiving, registers_of, sealing}
 use Rattle.link.specs.Histories.{after}
@@ -14,7 +14,3 @@ KeepsLaw key h = Law (keyed (key_table key)) product (vec_items h.log) (register
 -- The run is the history of a list of calls, for the table of a key and the printed coefficient.
 abbrev pub IsRunOf : {SK SC RK RC : Type 0} → List ℕ → List Call → History SK SC RK RC → Type 0
 IsRunOf key calls h = let f = keyed (key_table key) in after h ≡ history f product f product calls
-
--- The key of the scenario.
-abbrev pub the_key : List ℕ
-the_key = 0x46 ∷ 0x75 ∷ 0x74 ∷ 0x73 ∷ 0x61 ∷ 0x6d ∷ 0x62 ∷ 0x6f ∷ []

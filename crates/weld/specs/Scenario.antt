@@ -1,7 +1,8 @@
--- What a plan says of the words of its message.
+-- The key and the run of the scenario, and what a plan says of the words of its message.
 use Rattle.std.specs.Prelude.{◌≡◌, ◌≢◌, ℕ, ◌+◌, ◌-◌, ◌*◌, ◌%◌, ◌^◌, ◌≤◌, min, Some, All, Any, Bool, false, cond, List, [], ◌∷◌, ◌++◌, map, ◌==◌}
 use Rattle.std.specs.List.{list_any, range_with_len}
 use Rattle.std.specs.Option.{option_map_or}
+use Rattle.sss.specs.Cipher.{open_mask, sealed_mask}
 use Rattle.link.specs.declared.call.Call.{Call}
 use Rattle.link.specs.declared.call.Call.TheVariants.{OnSealer}
 use Rattle.link.specs.declared.call.SealerCall.{SealerCall}
@@ -14,6 +15,14 @@ use Rattle.weld.specs.declared.scenario.Fate.TheVariants.{Comes, Altered, Lost, 
 use Rattle.weld.specs.declared.scenario.Plan.{Plan}
 use Rattle.weld.specs.declared.span.Span.{Span}
 
+-- The key of both ends.
+abbrev pub the_key : List ℕ
+the_key = 0x46 ∷ 0x75 ∷ 0x74 ∷ 0x73 ∷ 0x61 ∷ 0x6d ∷ 0x62 ∷ 0x6f ∷ []
+
+-- The number of the run.
+abbrev pub the_run : ℕ
+the_run = 1207
+
 -- The wall thickness at a place, in hundredths of a millimetre.
 abbrev pub thickness_at : ℕ → ℕ
 thickness_at place = 940 + place * 37 % 61
@@ -22,21 +31,21 @@ thickness_at place = 940 + place * 37 % 61
 abbrev pub mileage_at : ℕ → ℕ
 mileage_at place = min (2000 + place) (2 ^ 16 - 1)
 
--- The place is that of a mileage mark.
-abbrev pub is_mark : Plan → ℕ → Bool
-is_mark plan place = list_any (λ mark. mark == place) plan.marks.now
+-- The place is that of a milestone.
+abbrev pub is_milestone : Plan → ℕ → Bool
+is_milestone plan place = list_any (λ milestone. milestone == place) plan.milestones.now
 
 -- The place is that of the part word.
 abbrev pub is_part : Plan → ℕ → Bool
 is_part plan place = option_map_or (λ part. part == place) plan.part false
 
--- A mileage mark is open, the low twelve bits of the part word are sealed, and all other words are sealed.
+-- A milestone is open, the low twelve bits of the part word are sealed, and all other words are sealed.
 abbrev pub mask_at : Plan → ℕ → ℕ
-mask_at plan place = cond (is_mark plan place) 0x0000 (cond (is_part plan place) 0x0FFF 0xFFFF)
+mask_at plan place = cond (is_milestone plan place) open_mask (cond (is_part plan place) 0x0FFF sealed_mask)
 
--- A mileage mark holds the mileage, and any other word the wall thickness.
+-- A milestone holds the mileage, and any other word the wall thickness.
 abbrev pub plain_at : Plan → ℕ → ℕ
-plain_at plan place = cond (is_mark plan place) (mileage_at place) (thickness_at place)
+plain_at plan place = cond (is_milestone plan place) (mileage_at place) (thickness_at place)
 
 -- The place is one of a loss.
 abbrev pub IsLostIn : ℕ → Span ℕ → Type 0

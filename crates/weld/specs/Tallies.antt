@@ -12,16 +12,16 @@ raised count n = min (count + n) (2 ^ 64 - 1)
 
 -- No word yet.
 abbrev pub fresh : Tally
-fresh = record { sealed = 0; received = 0; handed = 0; withheld = 0; wrong = 0 }
+fresh = record { sealed = 0; received = 0; handed_out = 0; withheld = 0; false_readings = 0 }
 
 -- One more word that the sealer took.
 abbrev pub after_sent : Tally → Tally
-after_sent t = record { sealed = raised t.sealed 1; received = t.received; handed = t.handed; withheld = t.withheld; wrong = t.wrong }
+after_sent t = record { sealed = raised t.sealed 1; received = t.received; handed_out = t.handed_out; withheld = t.withheld; false_readings = t.false_readings }
 
--- One more answer of the receiver, to a word that was given to the sealer as this plaintext: a reading that is another one is wrong.
+-- One more answer of the receiver, to a word that was given to the sealer as this plaintext: a reading that is another one is false.
 abbrev pub after_answer : ℕ → Answer → Tally → Tally
-after_answer plain (Reading q) t = record { sealed = t.sealed; received = raised t.received 1; handed = raised t.handed 1; withheld = t.withheld; wrong = cond (q == plain) t.wrong (raised t.wrong 1) }
-after_answer plain (Withheld row) t = record { sealed = t.sealed; received = raised t.received 1; handed = t.handed; withheld = raised t.withheld 1; wrong = t.wrong }
+after_answer plain (Reading q) t = record { sealed = t.sealed; received = raised t.received 1; handed_out = raised t.handed_out 1; withheld = t.withheld; false_readings = cond (q == plain) t.false_readings (raised t.false_readings 1) }
+after_answer plain (Withheld row) t = record { sealed = t.sealed; received = raised t.received 1; handed_out = t.handed_out; withheld = raised t.withheld 1; false_readings = t.false_readings }
 
 -- A word that was sent counts as sent, and where it was received its answer counts; nothing else counts.
 abbrev pub after_word : Tally → ℕ → Option Answer → Tally

@@ -1,7 +1,8 @@
 //! The runs of the link: a sealer and a receiver of one key that work by different implementations.
 ghost use Rattle.std.specs.Prelude.{◌≡◌, ◌+◌, length, IfOk, OnOk};
 ghost use Rattle.weld.specs.Crossings.{Crosses};
-ghost use Rattle.weld.specs.Runs.{IsRunOf, KeepsLaw, the_key};
+ghost use Rattle.weld.specs.Runs.{IsRunOf, KeepsLaw};
+ghost use Rattle.weld.specs.Scenario.{the_key};
 
 use crate::failure::Failure;
 use crate::scenario::{KEY, Plan, RUN};
@@ -18,10 +19,8 @@ pub(crate) fn run(key: &[u8], calls: Vec<Call>) -> Result<Link, Failure>
     ensures law { IfOk result (KeepsLaw key.now) }
     ensures run { IfOk result (IsRunOf key.now calls.items) }
 {
-    let mut filled = FilledTable::new();
-    filled.load(key)?;
-    let mut worked_out = FromKey::new();
-    worked_out.load(key)?;
+    let filled = FilledTable::of(key)?;
+    let worked_out = FromKey::of(key)?;
     let log = Vec::new(*calls.allocator());
     Ok(link::run((filled, PrintedTable), (worked_out, FieldRule), calls, log)?)
 }

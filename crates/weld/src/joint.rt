@@ -1,8 +1,8 @@
 //! The joint of the pipe between the two ends: which calls on the receiver come of what the sealer sent.
-ghost use Rattle.std.specs.Prelude.{◌≡◌, IfOk, OnOk};
+ghost use Rattle.std.specs.Prelude.{◌≡◌, ◌∷◌, ◌++◌, IfOk, OnOk};
 ghost use Rattle.std.specs.List.{zip};
 ghost use Rattle.std.specs.Slice.Iter.{iter_rest};
-ghost use Rattle.weld.specs.Joint.{AreFates, CarriesAcross, ComesOf, ComesOfWord, fates_after, next_fate, words_of};
+ghost use Rattle.weld.specs.Joint.{AddsFates, AreFates, CarriesAcross, ComesOf, ComesOfWord, at_receiver, fates_after, next_fate, words_of};
 
 use crate::failure::Failure;
 use crate::scenario::{ALTERATION, Fate, Plan};
@@ -52,17 +52,36 @@ fn carried(
     }
 }
 
+/// Adds the fates of a message's words behind those of other words.
+fn message_fates(plan: &Plan, fates: &mut Vec<Fate>) -> Result<(), Failure>
+    ensures { OnOk result (AddsFates plan.now fates.old.items fates.new.items) }
+{
+    for place in 0..plan.words {
+        fates.push(plan.fate(place))?;
+    }
+    Ok(())
+}
+
 /// The fates of all words, message by message.
 fn fates(heap: Global, plans: &[Plan]) -> Result<Vec<Fate>, Failure>
     ensures { IfOk result (λ v. AreFates (words_of plans.now) v.items) }
 {
     let mut fates = Vec::new(heap);
     for plan in plans {
-        for place in 0..plan.words {
-            fates.push(plan.fate(place))?;
-        }
+        message_fates(plan, &mut fates)?;
     }
     Ok(fates)
+}
+
+/// Adds a call on the sealer, and behind it the receiver's call that comes of it, if one comes.
+fn join(call: Call, came: Option<ReceiverCall>, calls: &mut Vec<Call>) -> Result<(), Failure>
+    ensures { OnOk result (calls.new.items ≡ calls.old.items ++ (call ∷ at_receiver came)) }
+{
+    calls.push(call)?;
+    if let Some(call) = came {
+        calls.push(Call::OnReceiver(call))?;
+    }
+    Ok(())
 }
 
 /// The calls of the whole link: each call on the sealer, and behind it what comes of it at the receiver, by the log of those calls.
@@ -74,11 +93,8 @@ pub(crate) fn calls(plans: &[Plan], sealing: Vec<Call>, log: &[Entry]) -> Result
     let mut fates = fates.iter();
     let mut calls = Vec::new(heap);
     for (call, entry) in sealing.into_iter().zip(log) {
-        calls.push(call)?;
         let came = carried(heap, entry, &mut fates)?;
-        if let Some(call) = came {
-            calls.push(Call::OnReceiver(call))?;
-        }
+        join(call, came, &mut calls)?;
     }
     Ok(calls)
 }

@@ -1,12 +1,14 @@
 //! The lines of the report.
 ghost use Rattle.std.specs.Prelude.{Some, None};
 ghost use Rattle.weld.specs.Lines.{CarriesOn, PlacesFit, TellsOne, told, told_of_word};
+ghost use Rattle.weld.specs.Texts.{line_text, rows_text};
 
-use crate::hex::{Hex, Tag};
+use crate::hex::{HexWord, HexWords};
 use crate::passage::{Event, Sent};
 use crate::places::Places;
 use crate::span::Span;
 use arrayvec::ArrayVec;
+use fields::{Hex, Tag};
 use link::{Answer, Verdict};
 use std::fmt;
 
@@ -21,7 +23,7 @@ pub enum Line {
         message: usize,
         nonce: [u8; 6],
     },
-    /// Readings of words in a row, each the plaintext of its word.
+    /// Readings of consecutive words, each the plaintext of its word.
     Readings {
         places: Places,
         values: ArrayVec<u16, WIDTH>,
@@ -32,12 +34,12 @@ pub enum Line {
         reading: u16,
         plain: u16,
     },
-    /// Words in a row that are withheld, with rows that rise one by one.
+    /// Consecutive words that are withheld, with rows that rise one by one.
     Withheld {
         places: Places,
         rows: Span<u8>,
     },
-    /// Words in a row that are lost.
+    /// Consecutive words that are lost.
     Lost(Places),
     /// A wire word that came altered.
     Altered {
@@ -101,7 +103,7 @@ impl Line {
         }
     }
 
-    /// Takes what is seen next into this line, where the line tells of a row of words that it carries on.
+    /// Takes what is seen next into this line, where the line tells of consecutive words that it carries on.
     pub(crate) fn takes(&mut self, event: &Event) -> bool
         requires { PlacesFit self.old }
         ensures { CarriesOn result self.old (told event.now) self.new }
@@ -160,43 +162,58 @@ fn one_more_reading(
 }
 
 impl fmt::Display for Line {
+    ghost output = { λ line. Some (line_text line) };
+
     fn fmt<W: fmt::Write>(&self, f: &mut fmt::Formatter<W>) -> fmt::Result {
         match self {
             Line::Heading { message, nonce } => {
                 write!(f, "message {message}, nonce {}", Hex(nonce))
             }
             Line::Readings { places, values } => {
-                write!(f, "  {places}: reading")?;
-                for value in values {
-                    write!(f, " {value:04x}")?;
-                }
-                Ok(())
+                write!(f, "  {places}: reading{}", HexWords(values))
             }
             Line::False {
                 places,
                 reading,
                 plain,
-            } => write!(
-                f,
-                "  {places}: reading {reading:04x} false, the plaintext is {plain:04x}"
-            ),
-            Line::Withheld { places, rows } if rows.is_one() => {
-                write!(f, "  {places}: withheld {rows}")
-            }
-            Line::Withheld { places, rows } => write!(f, "  {places}: withheld, rows {rows}"),
-            Line::Lost(places) => write!(f, "  {places}: lost at a weld"),
-            Line::Altered { places, wire, came } => {
+            } => {
+                let reading = HexWord(*reading);
+                let plain = HexWord(*plain);
                 write!(
                     f,
-                    "  {places}: altered on the way, wire {wire:04x} came as {came:04x}"
+                    "  {places}: reading {reading} false, the plaintext is {plain}"
+                )
+            }
+            Line::Withheld { places, rows } => write!(f, "  {places}: {}", WithheldRows(*rows)),
+            Line::Lost(places) => write!(f, "  {places}: lost at a weld"),
+            Line::Altered { places, wire, came } => {
+                let wire = HexWord(*wire);
+                let came = HexWord(*came);
+                write!(
+                    f,
+                    "  {places}: altered on the way, wire {wire} came as {came}"
                 )
             }
             Line::Break => write!(f, "  break: the receiver is told of the loss"),
-            Line::Ended { tag, verdict } => {
-                let tag = Tag(*tag);
-                write!(f, "  tag {tag}: verdict {verdict}")
-            }
+            Line::Ended { tag, verdict } => write!(f, "  tag {}: verdict {verdict}", Tag(*tag)),
             Line::Abandoned => write!(f, "  abandoned by the sealer: no tag, no verdict"),
+        }
+    }
+}
+
+/// The rows of withheld words to print.
+#[derive(Clone, Copy)]
+struct WithheldRows(Span<u8>);
+
+impl fmt::Display for WithheldRows {
+    ghost output = { λ rows. Some (rows_text rows.0) };
+
+    fn fmt<W: fmt::Write>(&self, f: &mut fmt::Formatter<W>) -> fmt::Result {
+        let Span { first, last } = self.0;
+        if first == last {
+            write!(f, "withheld {first}")
+        } else {
+            write!(f, "withheld, rows {first} to {last}")
         }
     }
 }

@@ -1,8 +1,8 @@
 //! Seals messages with one end of the link and takes them with the other, across a joint of a pipe that loses words at its welds.
 #![tactic(auto)]
 
-ghost use Rattle.std.specs.Prelude.{IfOk};
-ghost use Rattle.weld.specs.Observed.{CountsItsRun};
+ghost use Rattle.std.specs.Prelude.{IfOk, OnOk};
+ghost use Rattle.weld.specs.Observed.{CountsItsRun, PrintsItsRun};
 
 mod crossing;
 mod failure;
@@ -22,8 +22,10 @@ use crossing::Link;
 use failure::Failure;
 use line::Line;
 use link::Issuer;
+use scenario::Plan;
 use spot::SpotCheck;
 use std::alloc::Global;
+use std::io::Write;
 use tally::Tally;
 
 /// A run, and what there is to report of it.
@@ -35,12 +37,12 @@ struct Findings {
     spot: SpotCheck,
 }
 
-/// Makes the run, reads its log and counts what is seen there.
-fn observed(heap: Global) -> Result<Findings, Failure>
-    ensures { IfOk result CountsItsRun }
+/// Makes the run of these messages, reads its log and counts what is seen there.
+fn observed(heap: Global, plans: &[Plan]) -> Result<Findings, Failure>
+    ensures { IfOk result (CountsItsRun plans.now) }
 {
     let mut issuer = Issuer::new(scenario::RUN);
-    let link = crossing::whole_run(heap, &scenario::PLANS, &mut issuer)?;
+    let link = crossing::whole_run(heap, plans, &mut issuer)?;
     let events = passage::events(heap, &link.log)?;
     let lines = report::lines(heap, &events)?;
     let tally = Tally::of(&events);
@@ -53,24 +55,18 @@ fn observed(heap: Global) -> Result<Findings, Failure>
     })
 }
 
-/// Prints the report, where this build works out the known figures.
-fn reported(rt: &HostRuntime) -> anyhow::Result<()> {
+/// Prints the report of the run of these messages, where this build works out the known figures.
+fn reported<W: Write>(heap: Global, plans: &[Plan], writer: &mut W) -> anyhow::Result<()>
+    ensures { OnOk result (PrintsItsRun plans.now (W.contents writer.old) (W.contents writer.new)) }
+{
     if !figures::self_test() {
         return Err(Failure::Figures.into());
     }
-    let Findings {
-        lines,
-        tally,
-        spot,
-        ..
-    } = observed(rt.alloc())?;
-    report::opening(rt)?;
-    report::print(rt, &lines)?;
-    println!(rt; "{spot}")?;
-    println!(rt; "{tally}")?;
+    let findings = observed(heap, plans)?;
+    writeln!(writer, "{findings}")?;
     Ok(())
 }
 
 fn main(rt: HostRuntime) -> anyhow::Result<()> {
-    reported(&rt)
+    reported(rt.alloc(), &scenario::PLANS, &mut rt.stdout())
 }

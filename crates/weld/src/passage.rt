@@ -1,6 +1,6 @@
 //! The log of a run read as what an onlooker at the joint sees: which received word is which word of which message.
 ghost use Rattle.std.specs.Prelude.{◌≡◌, IfOk, OnOk};
-ghost use Rattle.weld.specs.Passages.{Reading, message_begun, noted, receiver_noted, sealer_noted, seeing, seen_in, settled, word_received, word_sent};
+ghost use Rattle.weld.specs.Passages.{ReadSoFar, message_begun, noted, receiver_noted, sealer_noted, seeing, seen_in, settled, word_received, word_sent};
 
 use crate::failure::Failure;
 use link::{Answer, Entry, ReceiverEntry, SealerEntry, Verdict};
@@ -50,7 +50,7 @@ struct Reader {
 }
 
 impl Model for Reader {
-    ghost Value = { Reading };
+    ghost Value = { ReadSoFar };
 
     ghost view = { λ r. record { begun = r.begun; place = r.place; pending = r.pending; seen = r.seen.items } };
 }

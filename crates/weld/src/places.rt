@@ -1,11 +1,13 @@
 //! Words of a message by their places.
-ghost use Rattle.std.specs.Prelude.{◌≡◌, ◌+◌, ◌↔◌, IsTrue};
+ghost use Rattle.std.specs.Prelude.{◌≡◌, ◌+◌, ◌↔◌, IsTrue, Some};
 ghost use Rattle.std.specs.Bool.{OnTrue, OnFalse};
 ghost use Rattle.weld.specs.Places.{IsKindOf};
+ghost use Rattle.weld.specs.Texts.{kind_text, places_text};
 
+use crate::hex::HexWord;
 use crate::passage::Sent;
-use crate::scenario::{OPEN, SEALED};
 use crate::span::Span;
+use sss::{OPEN, SEALED};
 use std::fmt;
 
 /// How much of a word is sealed.
@@ -32,16 +34,18 @@ impl From<u16> for Kind {
 }
 
 impl fmt::Display for Kind {
+    ghost output = { λ kind. Some (kind_text kind) };
+
     fn fmt<W: fmt::Write>(&self, f: &mut fmt::Formatter<W>) -> fmt::Result {
         match self {
             Kind::Sealed => Ok(()),
             Kind::Open => write!(f, " (open)"),
-            Kind::Part(mask) => write!(f, " (part, mask {mask:04x})"),
+            Kind::Part(mask) => write!(f, " (part, mask {})", HexWord(*mask)),
         }
     }
 }
 
-/// Words in a row that are of one kind.
+/// Consecutive words of one kind.
 #[derive(Clone, Copy)]
 pub struct Places {
     span: Span<u16>,
@@ -75,9 +79,15 @@ impl Places {
 }
 
 impl fmt::Display for Places {
+    ghost output = { λ places. Some (places_text places) };
+
     fn fmt<W: fmt::Write>(&self, f: &mut fmt::Formatter<W>) -> fmt::Result {
         let Places { span, kind } = self;
-        let label = if span.is_one() { "word" } else { "words" };
-        write!(f, "{label} {span}{kind}")
+        let Span { first, last } = span;
+        if first == last {
+            write!(f, "word {first}{kind}")
+        } else {
+            write!(f, "words {first} to {last}{kind}")
+        }
     }
 }

@@ -4,18 +4,13 @@ ghost use Rattle.weld.specs.Scenario.{IsFateAt, mask_at, plain_at, thickness_at}
 
 use crate::span::Span;
 use link::SealerCall;
+use sss::{OPEN, SEALED};
 
 /// The key of both ends.
 pub(crate) const KEY: [u8; 8] = [0x46, 0x75, 0x74, 0x73, 0x61, 0x6d, 0x62, 0x6f];
 
 /// The number of the run.
 pub(crate) const RUN: u32 = 1207;
-
-/// The mask of a sealed word: every bit is sealed.
-pub(crate) const SEALED: u16 = 0xFFFF;
-
-/// The mask of an open word: no bit is sealed.
-pub(crate) const OPEN: u16 = 0x0000;
 
 /// The mask of a part word: the low twelve bits are sealed.
 const PART: u16 = 0x0FFF;
@@ -53,8 +48,8 @@ pub enum Fate {
 pub struct Plan {
     /// How many words it has.
     pub words: u16,
-    /// The places of its mileage marks, which are open words.
-    pub marks: &'static [u16],
+    /// The places of its milestones, which are open words.
+    pub milestones: &'static [u16],
     /// The place of its part word.
     pub part: Option<u16>,
     /// Which words are lost at a weld, each loss by its places.
@@ -69,7 +64,7 @@ pub struct Plan {
 pub(crate) const PLANS: [Plan; 4] = [
     Plan {
         words: 60,
-        marks: &[5, 33, 41],
+        milestones: &[5, 33, 41],
         part: None,
         losses: &[
             Span {
@@ -86,7 +81,7 @@ pub(crate) const PLANS: [Plan; 4] = [
     },
     Plan {
         words: 30,
-        marks: &[],
+        milestones: &[],
         part: None,
         losses: &[Span { first: 6, last: 8 }],
         altered: None,
@@ -94,7 +89,7 @@ pub(crate) const PLANS: [Plan; 4] = [
     },
     Plan {
         words: 40,
-        marks: &[],
+        milestones: &[],
         part: None,
         losses: &[],
         altered: Some(10),
@@ -102,7 +97,7 @@ pub(crate) const PLANS: [Plan; 4] = [
     },
     Plan {
         words: 20,
-        marks: &[4, 14],
+        milestones: &[4, 14],
         part: Some(9),
         losses: &[],
         altered: None,
@@ -118,11 +113,11 @@ pub(crate) fn thickness(place: u16) -> u16
 }
 
 impl Plan {
-    /// The call that seals the word at a place: the mileage at a mark, in an open word, and else the wall thickness.
+    /// The call that seals the word at a place: the mileage at a milestone, in an open word, and else the wall thickness.
     pub(crate) fn word(&self, place: u16) -> SealerCall
         ensures { result ≡ SealerCall.Word (mask_at self.now place) (plain_at self.now place) }
     {
-        if self.marks.contains(&place) {
+        if self.milestones.contains(&place) {
             let plain = MILEAGE.saturating_add(place);
             return SealerCall::Word { mask: OPEN, plain };
         }

@@ -1,8 +1,6 @@
-//! Numbers in a row.
+//! Consecutive numbers.
 ghost use Rattle.std.specs.Prelude.{◌≡◌, ℕ, ◌+◌, ◌&&◌, ◌↔◌, IsTrue};
 ghost use Rattle.std.specs.Ordering.{partial_le};
-
-use std::fmt;
 
 /// Numbers that rise one by one, from the first to the last.
 // No range of the library: one with its last number cannot stand in a constant, and one without has no last number to go on from.
@@ -33,13 +31,6 @@ impl<T: Copy + PartialEq + Into<u32>> Span<T> {
         }
     }
 
-    /// Whether there is one number.
-    pub(crate) fn is_one(&self) -> bool
-        ensures { result ≡ T.eq self.now.first self.now.last }
-    {
-        self.first == self.last
-    }
-
     /// Whether this number comes next.
     pub(crate) fn leads_to(&self, number: T) -> bool
         ensures { (m n : ℕ) × T.converts self.now.last m × T.converts number n × (IsTrue result ↔ (n ≡ m + 1)) }
@@ -52,16 +43,5 @@ impl<T: Copy + PartialEq + Into<u32>> Span<T> {
         ensures { self.new ≡ record self.old { last = number } }
     {
         self.last = number;
-    }
-}
-
-impl<T: fmt::Display + PartialEq> fmt::Display for Span<T> {
-    fn fmt<W: fmt::Write>(&self, f: &mut fmt::Formatter<W>) -> fmt::Result {
-        let Span { first, last } = self;
-        if first == last {
-            write!(f, "{first}")
-        } else {
-            write!(f, "{first} to {last}")
-        }
     }
 }

@@ -1,6 +1,7 @@
 //! The counts of a run.
-ghost use Rattle.std.specs.Prelude.{◌≡◌};
+ghost use Rattle.std.specs.Prelude.{◌≡◌, Some};
 ghost use Rattle.weld.specs.Tallies.{after_answer, after_event, after_sent, counted};
+ghost use Rattle.weld.specs.Texts.{tally_text};
 
 use crate::passage::Event;
 use link::Answer;
@@ -14,11 +15,11 @@ pub struct Tally {
     /// The words that the receiver took.
     pub received: usize,
     /// Those of them that it handed a reading out for.
-    pub handed: usize,
+    pub handed_out: usize,
     /// Those of them that it withheld.
     pub withheld: usize,
     /// The readings that are not the plaintext of their word.
-    pub wrong: usize,
+    pub false_readings: usize,
 }
 
 impl Tally {
@@ -36,9 +37,9 @@ impl Tally {
         self.received = self.received.saturating_add(1);
         match answer {
             Answer::Reading(reading) => {
-                self.handed = self.handed.saturating_add(1);
+                self.handed_out = self.handed_out.saturating_add(1);
                 if reading != plain {
-                    self.wrong = self.wrong.saturating_add(1);
+                    self.false_readings = self.false_readings.saturating_add(1);
                 }
             }
             Answer::Withheld(_) => {
@@ -79,17 +80,19 @@ impl Tally {
 }
 
 impl fmt::Display for Tally {
+    ghost output = { λ tally. Some (tally_text tally) };
+
     fn fmt<W: fmt::Write>(&self, f: &mut fmt::Formatter<W>) -> fmt::Result {
         let Tally {
             sealed,
             received,
-            handed,
+            handed_out,
             withheld,
-            wrong,
+            false_readings,
         } = self;
         write!(
             f,
-            "sealed {sealed} received {received} handed-out {handed} withheld {withheld} false {wrong}"
+            "sealed {sealed} received {received} handed-out {handed_out} withheld {withheld} false {false_readings}"
         )
     }
 }

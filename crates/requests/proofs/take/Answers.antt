@@ -1,7 +1,7 @@
 use Rattle.std.proofs.Common.{inl, inr, refl, ◌++◌, append_assoc, codes}
 use Rattle.std.specs.Fmt.{decimal}
 use Rattle.std.proofs.lemmas.Result.{on_ok_weaker}
-use Rattle.requests.specs.Runs.{ended}
+use Rattle.fields.specs.Texts.{ended}
 use Rattle.requests.specs.Texts.{reply_text, unread_text}
 use Rattle.requests.proofs.take.Goals as goal
 

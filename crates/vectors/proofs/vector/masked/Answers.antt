@@ -5,7 +5,7 @@ use Rattle.std.proofs.lemmas.Result.{IfOk-weaker}
 use Rattle.std.proofs.lemmas.Simd.{map-map}
 use Rattle.std.proofs.lemmas.Slice.Zip.{firsts-zip, seconds-zip}
 use Rattle.sss.specs.declared.MaskedWord.{MaskedWord}
-use Rattle.vectors.specs.Fields.{mask_of, text_of}
+use Rattle.sss.specs.Directions.{mask_of, text_of}
 use Rattle.vectors.proofs.vector.masked.Goals as goal
 
 abbrev word : ℕ × ℕ → MaskedWord

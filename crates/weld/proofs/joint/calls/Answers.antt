@@ -1,4 +1,4 @@
-use Rattle.std.proofs.Common.{◌≡◌, List, [], ◌∷◌, ◌++◌, Some, None, Option, fold, refl, ap, ◌∙◌, sym, subst, append_assoc, append-nil, Bor}
+use Rattle.std.proofs.Common.{◌≡◌, List, [], ◌∷◌, ◌++◌, Option, fold, refl, ap, ◌∙◌, sym, subst, append_assoc, append-nil, Bor}
 use Rattle.std.specs.Iterator.Adapters.{zip_first, zip_second}
 use Rattle.std.specs.Slice.Iter.{iter_rest}
 use Rattle.std.specs.Vec.Iter.{into_iter_items, into_iter_len}
@@ -8,7 +8,6 @@ use Rattle.std.proofs.lemmas.Iterator.Consumers.{YieldsList-end}
 use Rattle.std.proofs.lemmas.List.{map-append}
 use Rattle.std.proofs.lemmas.List.Sums.{fold_push}
 use Rattle.link.specs.declared.call.Call.{Call}
-use Rattle.link.specs.declared.call.Call.TheVariants.{OnReceiver}
 use Rattle.link.specs.declared.call.Entry.{Entry}
 use Rattle.link.specs.declared.call.ReceiverCall.{ReceiverCall}
 use Rattle.weld.specs.Joint.{ComesOf, Joined, at_receiver, fates_after, next_fate}
@@ -59,20 +58,6 @@ module _ (fates : List Fate) (before : List (Call × Bor Entry)) {now : List Fat
       after ∙ ap (λ (now : List Fate). fates_after entry.now now) left ∙
       sym (fold_push (λ fates c. fates_after c.1 fates) fates (made before) (call, entry.now)) ∙ ap (left_after fates) made_more
 
-pub loop-call-preserved-in-Continue-branch-4 : goal.loop-call-preserved-in-Continue-branch-4
-unfolding left_after
-loop-call-preserved-in-Continue-branch-4 c =
-    let call = c.in-Some.call in
-    let entry = c.in-Some.entry in
-    let so_far = c.loop-call.invariant in
-    let came = c.in-Some-came.call in
-    let as_made = c.in_ok-push-2.ensures.items ∙ (λ i. c.in_ok-push.ensures.items i ++ OnReceiver came ∷ []) ∙ append_assoc c.loop-call.calls.items (call ∷ []) (OnReceiver came ∷ []) in
-    record {
-      calls = calls_more (iter_rest c.iter-fates.result) c.loop-call.yielded call entry so_far.fates _ _ (Some came) so_far.calls
-          (rw c.in-Some-came.is at c.in_ok-came.ensures.call) as_made;
-      fates = fates_more (iter_rest c.iter-fates.result) c.loop-call.yielded call entry so_far.fates c.in_ok-came.ensures.fates;
-    }
-
 pub loop-call-preserved : goal.loop-call-preserved
 unfolding left_after
 loop-call-preserved c =
@@ -80,8 +65,7 @@ loop-call-preserved c =
     let entry = c.in-Some.entry in
     let so_far = c.loop-call.invariant in
     record {
-      calls = calls_more (iter_rest c.iter-fates.result) c.loop-call.yielded call entry so_far.fates _ _ None so_far.calls
-          (rw c.in_default.is at c.in_ok-came.ensures.call) c.in_ok-push.ensures.items;
+      calls = calls_more (iter_rest c.iter-fates.result) c.loop-call.yielded call entry so_far.fates _ _ _ so_far.calls c.in_ok-came.ensures.call c.in_ok-join.ensures;
       fates = fates_more (iter_rest c.iter-fates.result) c.loop-call.yielded call entry so_far.fates c.in_ok-came.ensures.fates;
     }
 

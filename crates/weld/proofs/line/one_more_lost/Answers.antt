@@ -4,7 +4,7 @@ use Rattle.weld.specs.Lines.{CarriesOn, lost}
 use Rattle.weld.specs.Places.{IsKindOf}
 use Rattle.weld.specs.declared.line.Line.TheVariants.{Lost}
 use Rattle.weld.specs.declared.places.Places.{Places}
-use Rattle.weld.proofs.Rows.{lost_more}
+use Rattle.weld.proofs.Consecutive.{lost_more}
 use Rattle.weld.proofs.line.one_more_lost.Goals as goal
 
 -- The places go on, or they are left as they were.

@@ -1,7 +1,7 @@
 use Rattle.std.proofs.Common.{◌≡◌, ℕ, true, false, sym, ◌∙◌, arith}
 use Rattle.std.specs.Bool.{◌==◌}
 use Rattle.std.proofs.lemmas.Bool.Decides.{nat_tests}
-use Rattle.weld.proofs.Rows.{Longer, fit_more, read_more}
+use Rattle.weld.proofs.Consecutive.{Longer, fit_more, read_more}
 use Rattle.weld.proofs.line.one_more_reading.Goals as goal
 use Rattle.weld.proofs.line.one_more_reading.Goals.{then-reading-sent, else-reading-sent, then-not-is_full, else-not-is_full}
 

@@ -1,5 +1,5 @@
 use Rattle.std.proofs.Common.{◌≡◌, ◌+◌, true, false, refl, sym, ◌∙◌, arith}
-use Rattle.weld.proofs.Rows.{withheld_more}
+use Rattle.weld.proofs.Consecutive.{withheld_more}
 use Rattle.weld.proofs.line.one_more_withheld.Goals as goal
 use Rattle.weld.proofs.line.one_more_withheld.Goals.{then-leads_to, else-leads_to}
 

@@ -1,5 +1,5 @@
 use Rattle.sss.proofs.Asked.{asked_then}
-use Rattle.vectors.specs.declared.compare.Multiplier.TheVariants.{PrintedTable, FieldRule}
+use Rattle.vectors.specs.declared.compare.CoefficientName.TheVariants.{PrintedTable, FieldRule}
 use Rattle.vectors.specs.declared.compare.Way.{Way}
 use Rattle.vectors.specs.Ways.{One}
 use Rattle.vectors.proofs.Added.{finds_then, noted_made}
@@ -10,8 +10,8 @@ returns g c =
     let before = c.args.self.now in
     let between = c.note.new.self in
     let after = c.note-2.new.self in
-    let printed : Way = record { function = c.args.function; multiplier = PrintedTable } in
-    let ruled : Way = record { function = c.args.function; multiplier = FieldRule } in
+    let printed : Way = record { function = c.args.function; coefficient = PrintedTable } in
+    let ruled : Way = record { function = c.args.function; coefficient = FieldRule } in
     asked_then c.in_ok-printed.ensures c.in_ok-ruled.ensures
     (λ f made more. finds_then (λ v. One f v printed) (λ v. One f v ruled) before between after
     (noted_made f c.in_ok-printed.printed printed before between made c.in_ok-note.ensures)

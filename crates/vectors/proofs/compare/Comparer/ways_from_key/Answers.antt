@@ -2,7 +2,7 @@ use Rattle.std.proofs.Common.{ap, ◌∙◌}
 use Rattle.std.proofs.lemmas.Result.{on_ok_weaker}
 use Rattle.functions.specs.Functions.{from_key_table}
 use Rattle.sss.specs.Cipher.{key_table}
-use Rattle.vectors.specs.declared.compare.Function.TheVariants.{FromKey, LazyOverKey}
+use Rattle.vectors.specs.declared.compare.FunctionName.TheVariants.{FromKey, LazyOverKey}
 use Rattle.vectors.specs.Ways.{Keyed}
 use Rattle.vectors.proofs.Added.{finds_then, finds_keyed, key_kept}
 use Rattle.vectors.proofs.compare.Comparer.ways_from_key.Goals as goal
@@ -12,7 +12,7 @@ returns c =
     let before = c.args.self.now in
     let between = c.two_ways.new.self in
     let after = c.two_ways-2.new.self in
-    let loaded = c.in_ok-load.ensures in
+    let loaded = c.in_ok-computed.ensures in
     let first = c.in_ok-two_ways.ensures in
     let second = c.two_ways-2.ensures in
     let lazy = c.new-lazy.ensures in

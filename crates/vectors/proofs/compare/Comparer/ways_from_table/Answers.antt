@@ -1,7 +1,7 @@
 use Rattle.std.proofs.Common.{ap, ◌∙◌}
 use Rattle.std.proofs.lemmas.Result.{on_ok_weaker}
 use Rattle.sss.specs.Cipher.{key_table}
-use Rattle.vectors.specs.declared.compare.Function.TheVariants.{FilledTable, GivenTable, LazyTwice}
+use Rattle.vectors.specs.declared.compare.FunctionName.TheVariants.{FilledTable, GivenTable, LazyTwice}
 use Rattle.vectors.specs.Ways.{Keyed, Then}
 use Rattle.vectors.proofs.Added.{finds_then, finds_keyed, key_kept}
 use Rattle.vectors.proofs.compare.Comparer.ways_from_table.Goals as goal
@@ -12,9 +12,9 @@ returns c =
     let a = c.two_ways.new.self in
     let b = c.two_ways-2.new.self in
     let end = c.two_ways-3.new.self in
-    let loaded = c.in_ok-load.ensures in
+    let loaded = c.in_ok-filled.ensures in
     let first = c.in_ok-two_ways.ensures in
-    let given = c.in_ok-load-2.ensures in
+    let given = c.in_ok-load.ensures in
     let second = c.in_ok-two_ways-2.ensures in
     let inner = c.new.ensures in
     let outer = c.new-lazy.ensures in

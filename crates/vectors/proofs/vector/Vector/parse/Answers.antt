@@ -2,7 +2,8 @@ use Rattle.std.proofs.Common.{◌≡◌, ℕ, List, length, refl, subst}
 use Rattle.std.proofs.lemmas.Result.{MatchResult-weaker}
 use Rattle.vectors.specs.declared.vector.Malformed.{Malformed}
 use Rattle.vectors.specs.declared.vector.Malformed.TheVariants.{NotText, Fields, InField, Lengths, NoMemory}
-use Rattle.vectors.specs.Fields.{Cut, texts_of}
+use Rattle.fields.specs.Cutting.{Cut}
+use Rattle.vectors.specs.Fields.{texts_of}
 use Rattle.vectors.specs.Lines.{NotRead, NotParsed}
 use Rattle.vectors.proofs.vector.Vector.parse.Goals as goal
 

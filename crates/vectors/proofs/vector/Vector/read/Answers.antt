@@ -6,7 +6,8 @@ use Rattle.vectors.specs.declared.vector.Vector.{Vector}
 use Rattle.vectors.specs.declared.vector.Malformed.{Malformed}
 use Rattle.vectors.specs.Fields.{FieldWords, NoWords, NoTag, texts_of}
 use Rattle.vectors.specs.Lines.{Reads, NotRead}
-use Rattle.vectors.proofs.Placed.{ok_of, err_of, bytes_of, words_of}
+use Rattle.fields.proofs.Placed.{ok_of, err_of}
+use Rattle.vectors.proofs.Placed.{bytes_of, words_of}
 use Rattle.vectors.proofs.vector.Vector.read.Goals as goal
 use Rattle.vectors.proofs.vector.Vector.read.Goals.{then-len-via-then-len, then-len-via-else-len+then-len-2}
 
@@ -14,7 +15,7 @@ pub returns-in_err-wire : goal.returns-in_err-wire
 returns-in_err-wire c =
     let text = c.args.fields.wire.now in
     let p = err_from_is_err_and c.from_residual-in_err-wire.result c.from_residual-in_err-wire.ensures.1 in
-    let q = err_of Wire c.field_words-3.result (λ v. FieldWords text (vec_items v)) (NoWords text) _ c.in_err-wire.ensures.value c.field_words-3.ensures.value in
+    let q = err_of (λ v. FieldWords text (vec_items v)) (NoWords text) (InField Wire) c.field_words-3.result _ c.in_err-wire.ensures.value c.field_words-3.ensures.value in
     let same : p.0 ≡ InField Wire q.0 = cc (p.2, q.1) in
     let texts = texts_of c.args.fields in
     record { value = subst (λ (r : Result Vector Malformed). MatchResult r (Reads texts) (NotRead texts)) (sym p.1) (subst (NotRead texts) (sym same) q.2) }
@@ -49,6 +50,6 @@ returns c =
         subst (FieldWords f.masks.now) (sym (c.in_ok-wire-2.ensures.masks ∙ c.deref-3.ensures.value)) masks,
         subst (FieldWords f.plaintext.now) (sym (c.in_ok-plaintext-2.ensures.texts ∙ c.deref-2.ensures.value)) (words_of Plaintext f.plaintext.now c.field_words-2.result _ c.in_ok-plaintext.ensures.value c.field_words-2.ensures.value),
         subst (FieldWords f.wire.now) (sym (c.in_ok-wire-2.ensures.texts ∙ c.deref-4.ensures.value)) (words_of Wire f.wire.now c.field_words-3.result _ c.in_ok-wire.ensures.value c.field_words-3.ensures.value),
-        ok_of Tag c.field_tag.result (FieldWords f.tag.now) (NoTag f.tag.now) _ c.in_ok-tag.ensures.value c.field_tag.ensures.value,
+        ok_of (FieldWords f.tag.now) (NoTag f.tag.now) (InField Tag) c.field_tag.result _ c.in_ok-tag.ensures.value c.field_tag.ensures.value,
       );
     }

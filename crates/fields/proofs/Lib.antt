@@ -1,0 +1,3 @@
+pub mod Appended
+pub mod Digits
+pub mod Placed
