@@ -1,10 +1,17 @@
-//! Worked examples of the calls of the cipher and its functions, as tests: each refusal, each edge value, and what is left afterwards.
+//! Worked examples of the calls of the cipher and its functions: sound functions of each make, and as tests each refusal, each edge value, and
+//! what is left afterwards.
 #![tactic(auto)]
+
+pub mod sound;
 
 #[cfg(test)]
 mod tests {
+    use crate::sound;
     use functions::{FieldRule, FilledTable, FromKey, GivenTable, LazyTable, PrintedTable};
-    use sss::{Fault, KeyedFunction, Layer, MaskedWord, Registers, open_message, seal_message};
+    use sss::{
+        Fault, KeyedFunction, Layer, MaskedWord, OPEN, Registers, SEALED, open_message,
+        seal_message,
+    };
     use std::test::Fail;
 
     const KEY: [u8; 17] = [3, 1, 4, 1, 5, 9, 2, 6, 5, 3, 5, 8, 9, 7, 9, 3, 2];
@@ -63,9 +70,8 @@ mod tests {
     }
 
     #[test]
-    fn a_table_is_taken_where_it_keeps_the_law(rt: HostRuntime) {
-        let mut filled = FilledTable::new();
-        assert_eq!(rt; filled.load(&KEY[0..5]), Ok(()));
+    fn a_table_is_taken_where_it_keeps_the_law(rt: HostRuntime) -> Result<(), Fail> {
+        let mut filled = FilledTable::of(&KEY[0..5])?;
         let mut table = [0u16; 256];
         table.copy_from_slice(filled.entries());
         let mut given = GivenTable::new();
@@ -80,13 +86,12 @@ mod tests {
         table[7] ^= 0x0101;
         assert_eq!(rt; given.load(&table), Ok(()));
         assert_eq!(rt; given.apply(0x07CD), filled.apply(0x07CD) ^ 1);
+        Ok(())
     }
 
     #[test]
-    fn a_lazy_table_remembers_what_was_asked(rt: HostRuntime) {
-        let mut below = FromKey::new();
-        assert_eq!(rt; below.load(&[0x00]), Ok(()));
-        let mut lazy = LazyTable::new(LazyTable::new(below));
+    fn a_lazy_table_remembers_what_was_asked(rt: HostRuntime) -> Result<(), Fail> {
+        let mut lazy = LazyTable::new(LazyTable::new(FromKey::of(&[0x00])?));
         assert_eq!(rt; lazy.remembered(0x01), None);
         assert_eq!(rt; lazy.apply(0x0102), 0xD7EF);
         assert_eq!(rt; lazy.remembered(0x01), Some(0xD7EF ^ 0x0102));
@@ -96,6 +101,32 @@ mod tests {
         assert_eq!(rt; old.remembered(0x01), Some(0xD7EF ^ 0x0102));
         assert_eq!(rt; lazy.remembered(0x01), None);
         assert_eq!(rt; lazy.apply(0x0102), 0x0102);
+        Ok(())
+    }
+
+    // The images of a word from each sixteenth of them.
+    fn images<K: KeyedFunction + Drop>(mut f: K) -> [u16; 16] {
+        let mut images = [0; 16];
+        for (word, image) in (0u16..16).zip(&mut images) {
+            *image = f.apply(word << 12);
+        }
+        images
+    }
+
+    #[test]
+    fn functions_of_one_table_answer_alike(rt: HostRuntime) {
+        let due = images(sound::keyed_from_key());
+        assert!(rt; due != images(sound::fresh_from_key()));
+        assert!(rt; images(sound::keyed_filled()) == due);
+        assert!(rt; images(sound::keyed_given()) == due);
+        assert!(rt; images(sound::refused_from_key()) == due);
+        assert!(rt; images(sound::refused_filled()) == due);
+        assert!(rt; images(sound::refused_given()) == due);
+        assert!(rt; images(sound::lazy_from_key()) == due);
+        assert!(rt; images(sound::lazy_filled()) == due);
+        assert!(rt; images(sound::lazy_given()) == due);
+        assert!(rt; images(sound::lazy_asked()) == due);
+        assert!(rt; images(sound::lazy_loaded()) == due);
     }
 
     #[test]
@@ -125,17 +156,15 @@ mod tests {
 
     #[test]
     fn a_message_comes_back(rt: HostRuntime) -> Result<(), Fail> {
-        let mut sealer = FilledTable::new();
-        let mut opener = FromKey::new();
-        assert_eq!(rt; sealer.load(&KEY[0..9]), Ok(()));
-        assert_eq!(rt; opener.load(&KEY[0..9]), Ok(()));
+        let mut sealer = FilledTable::of(&KEY[0..9])?;
+        let mut opener = FromKey::of(&KEY[0..9])?;
         let plain = [
             MaskedWord {
-                mask: 0xFFFF,
+                mask: SEALED,
                 text: 0x0123,
             },
             MaskedWord {
-                mask: 0,
+                mask: OPEN,
                 text: 0x4567,
             },
             MaskedWord {

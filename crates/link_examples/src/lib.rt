@@ -1,25 +1,27 @@
-//! Worked examples of the calls of the link's two ends, as tests: each refusal, each edge value, and what is left afterwards.
+//! Worked examples of the calls of the link's two ends: a history that meets each premise of the law of a loss, and as tests each refusal, each
+//! edge value, and what is left afterwards.
 #![tactic(auto)]
+
+mod worked;
+
+pub use worked::worked_history;
 
 #[cfg(test)]
 mod tests {
+    use crate::worked_history;
     use functions::{FieldRule, FilledTable, FromKey, LazyTable, PrintedTable};
     use link::{
         Answer, Call, Entry, History, Issuer, Nonce, OpenMessage, ReadySealer, Receiver,
         ReceiverCall, ReceiverEntry, Reception, Sealer, SealerCall, SealerEntry, Unmade, Verdict,
         run,
     };
-    use sss::{Coefficient, Fault, KeyedFunction, Registers};
+    use sss::{Coefficient, Fault, KeyedFunction, OPEN, Registers, SEALED};
     use std::alloc::{AllocError, Global};
     use std::process::Abort;
     use std::test::Fail;
 
     // The key of every end. The wire words, tags and readings below that follow from it are those of the program in `reference/`.
     const KEY: [u8; 16] = [3, 1, 4, 1, 5, 9, 2, 6, 5, 3, 5, 8, 9, 7, 9, 3];
-
-    const SEALED: u16 = 0xFFFF;
-
-    const OPEN: u16 = 0;
 
     const PART: u16 = 0x0FF0;
 
@@ -53,17 +55,12 @@ mod tests {
         wire: 0x0123,
     };
 
-    // A key is loaded by two lines wherever one is: `load` is in no trait, and one for it would be longer than they are.
     fn filled() -> Result<FilledTable, Fail> {
-        let mut f = FilledTable::new();
-        f.load(&KEY)?;
-        Ok(f)
+        Ok(FilledTable::of(&KEY)?)
     }
 
     fn from_key() -> Result<FromKey, Fail> {
-        let mut f = FromKey::new();
-        f.load(&KEY)?;
-        Ok(f)
+        Ok(FromKey::of(&KEY)?)
     }
 
     fn nonce(run: u32, message: u16) -> Result<Nonce, Fail> {
@@ -168,6 +165,52 @@ mod tests {
             calls,
             Vec::new(rt.alloc()),
         )?)
+    }
+
+    // What the receiver of the worked history answers: true readings, two that are spoilt behind an altered word, seventeen rows after a loss.
+    fn worked_answers(heap: Global) -> Result<Vec<Answer>, AllocError> {
+        let mut answers = Vec::new(heap);
+        answers.extend([7, 0x1234, 940, 685, 937, 1000].map(Answer::Reading))?;
+        answers.extend((1..=17u8).map(Answer::Withheld))?;
+        answers.extend([1019, 943].map(Answer::Reading))?;
+        Ok(answers)
+    }
+
+    // The answers of a log, in order.
+    fn answers(heap: Global, log: &[Entry]) -> Result<Vec<Answer>, AllocError> {
+        let mut answers = Vec::new(heap);
+        for entry in log {
+            if let Entry::OfReceiver(ReceiverEntry::Received { answer, .. }) = entry {
+                answers.push(*answer)?;
+            }
+        }
+        Ok(answers)
+    }
+
+    // The verdicts of a log, in order.
+    fn verdicts(heap: Global, log: &[Entry]) -> Result<Vec<Verdict>, AllocError> {
+        let mut verdicts = Vec::new(heap);
+        for entry in log {
+            if let Entry::OfReceiver(ReceiverEntry::Finished { verdict, .. }) = entry {
+                verdicts.push(*verdict)?;
+            }
+        }
+        Ok(verdicts)
+    }
+
+    #[test]
+    fn the_worked_history_has_the_answers_of_the_reference(rt: HostRuntime) -> Result<(), Fail> {
+        let heap = rt.alloc();
+        let history = worked_history(heap)?;
+        assert_eq!(rt; history.log.len(), 67);
+        assert!(rt; answers(heap, &history.log)? == worked_answers(heap)?);
+        assert!(rt;
+            verdicts(heap, &history.log)?.as_slice()
+                == [Verdict::Agrees, Verdict::Differs, Verdict::Broken].as_slice()
+        );
+        assert!(rt; matches!(history.sealer, Sealer::Ready(_)));
+        assert_eq!(rt; history.receiver.reception(), Reception::Whole);
+        Ok(())
     }
 
     #[test]

@@ -1,8 +1,13 @@
-//! Worked examples of the calls on whole messages, as tests: each refusal, each edge value, and what is left afterwards.
+//! Worked examples of the calls on whole messages: one that comes back, and as tests each refusal, each edge value, and what is left afterwards.
 #![tactic(auto)]
+
+mod back;
+
+pub use back::came_back;
 
 #[cfg(test)]
 mod tests {
+    use crate::came_back;
     use functions::{FieldRule, FilledTable, FromKey, GivenTable, LazyTable, PrintedTable};
     use link::{Answer, Issuer, Nonce, ReadySealer, Receiver, Verdict};
     use message::{LONGEST, open, seal};
@@ -176,15 +181,11 @@ mod tests {
     };
 
     fn filled() -> Result<FilledTable, Fail> {
-        let mut f = FilledTable::new();
-        f.load(&KEY)?;
-        Ok(f)
+        Ok(FilledTable::of(&KEY)?)
     }
 
     fn from_key() -> Result<FromKey, Fail> {
-        let mut f = FromKey::new();
-        f.load(&KEY)?;
-        Ok(f)
+        Ok(FromKey::of(&KEY)?)
     }
 
     fn given() -> Result<GivenTable, Fail> {
@@ -322,6 +323,11 @@ mod tests {
         let zeros = [0; 24];
         holds(rt, &output, zeros.get(..message.wire.len()).unwrap_or(&[]));
         opens(rt, &mut f, &FieldRule, &TWELVE)
+    }
+
+    #[test]
+    fn three_words_come_back(rt: HostRuntime) {
+        assert!(rt; came_back() == [0xAC, 0x03, 0xD0, 0x07, 0xD1, 0x03]);
     }
 
     #[test]

@@ -1,8 +1,14 @@
-//! Worked examples of the calls on a tape, as tests: each command, each refusal, each edge value, and what is left afterwards.
+//! Worked examples of the calls on a tape: two commands that are read back, and as tests each command, each refusal, each edge value, and what
+//! is left afterwards.
 #![tactic(auto)]
+
+mod written;
+
+pub use written::read_back;
 
 #[cfg(test)]
 mod tests {
+    use crate::read_back;
     use functions::{FieldRule, FilledTable, FromKey, LazyTable, PrintedTable};
     use link::{Answer, Receiver, Verdict};
     use sss::{Fault, Layer};
@@ -179,6 +185,11 @@ mod tests {
     }
 
     #[test]
+    fn two_commands_are_written_as_these_bytes(rt: HostRuntime) {
+        assert!(rt; read_back() == [0x42, 0x53, 0x34, 0x12]);
+    }
+
+    #[test]
     fn each_command_is_written(rt: HostRuntime) -> Result<(), Fail> {
         let mut tape = [0xA5; 40];
         let mut writer = Writer::new(&mut tape);
@@ -302,9 +313,7 @@ mod tests {
 
     #[test]
     fn any_keyed_function_replays_a_tape(rt: HostRuntime) -> Result<(), Fail> {
-        let mut below = FromKey::new();
-        below.load(&[0])?;
-        let receiver = Receiver::new(LazyTable::new(below), FieldRule);
+        let receiver = Receiver::new(LazyTable::new(FromKey::of(&[0])?), FieldRule);
         let mut last = None;
         for line in Replay::new(receiver, &MESSAGE[2..37]) {
             if line != (Line::End { length: 35 }) {
@@ -321,9 +330,7 @@ mod tests {
 
     #[test]
     fn a_replay_goes_on_from_where_its_receiver_stands(rt: HostRuntime) -> Result<(), Fail> {
-        let mut function = FilledTable::new();
-        function.load(&[0])?;
-        let mut receiver = Receiver::new(function, PrintedTable);
+        let mut receiver = Receiver::new(FilledTable::of(&[0])?, PrintedTable);
         receiver.begin(&MESSAGE[3..9])?;
         let mut replay = Replay::new(receiver, &MESSAGE[9..12]);
         let reading = Line::Word {
