@@ -29,11 +29,11 @@ struct Outcome {
     number: u32,
     answer: Answer,
     verdict: u8,
+    cipher: [u16; 17],
+    check: [u16; 17],
     key: [u8; 16],
     key_length: u8,
     state: u8,
-    /// Where the call refused: the receiver is as found, in each field. Where it set the receiver up, or took a tag: its registers are zero.
-    registers_due: bool,
     /// Margins, and what is lent for reading, are as they were.
     rest_kept: bool,
 }
@@ -42,9 +42,11 @@ struct Outcome {
 const UNWRITTEN: Answer = Answer { reading: 0xc3c3, handed_out: 0xc3, row: 0xc3 };
 const NO_VERDICT: u8 = 0xc3;
 
-/// The oracle's receiver beside what our receiver's key and state must be. There is none where the receiver was never set up.
+/// The oracle's receiver beside what the fields of ours must be. There is none where the receiver was never set up.
 struct Wanted {
     receiver: Option<reference::Receiver>,
+    cipher: [u16; 17],
+    check: [u16; 17],
     key: [u8; 16],
     key_length: u8,
     state: u8,
@@ -81,7 +83,8 @@ pub fn print_counts(report: &Report, scripts: u64) {
 /// Makes the calls one by one, and stops where one differs: what comes after it would differ too.
 fn run(report: &mut Report, rng: &mut Rng, case: u64, memory: u8, calls: &[Call]) {
     let mut ours = filled(memory);
-    let mut wanted = Wanted { receiver: None, key: ours.key, key_length: ours.key_length, state: ours.state };
+    let Receiver { cipher, check, key, key_length, state } = *ours;
+    let mut wanted = Wanted { receiver: None, cipher, check, key, key_length, state };
     for (at, call) in calls.iter().enumerate() {
         let due = wanted.take(call);
         count(report, call, &due, wanted.receiver.is_none());
@@ -104,7 +107,6 @@ fn filled(with: u8) -> Framed<Receiver> {
 // ------------------------------------------------------------------ what is
 
 fn take(receiver: &mut Framed<Receiver>, call: &Call, shift: usize) -> Outcome {
-    let before = **receiver;
     let given = Lent::new(call.given(), shift);
     let (lent, mut answer, mut verdict) = (given.clone(), Framed::new(UNWRITTEN), Framed::new(NO_VERDICT));
     let number = match call {
@@ -120,13 +122,8 @@ fn take(receiver: &mut Framed<Receiver>, call: &Call, shift: usize) -> Outcome {
     };
     let margins_kept = receiver.margins_kept() && answer.margins_kept() && verdict.margins_kept();
     let Receiver { cipher, check, key, key_length, state } = **receiver;
-    let registers_due = match (number, call) {
-        (ffi::OK, Call::New(_) | Call::Finish(_)) => cipher == [0; 17] && check == [0; 17],
-        (ffi::OK, _) => true,
-        _ => **receiver == before,
-    };
     let rest_kept = margins_kept && black_box(lent) == given;
-    Outcome { number, answer: *answer, verdict: *verdict, key, key_length, state, registers_due, rest_kept }
+    Outcome { number, answer: *answer, verdict: *verdict, cipher, check, key, key_length, state, rest_kept }
 }
 
 impl Call {
@@ -166,8 +163,11 @@ impl Wanted {
             }
         };
         let number = done.err().unwrap_or(ffi::OK);
-        let Wanted { key, key_length, state, .. } = *self;
-        Outcome { number, answer, verdict, key, key_length, state, registers_due: true, rest_kept: true }
+        if let Some(receiver) = &self.receiver {
+            (self.cipher, self.check) = (receiver.registers.cipher.r, receiver.registers.check.c);
+        }
+        let Wanted { cipher, check, key, key_length, state, .. } = *self;
+        Outcome { number, answer, verdict, cipher, check, key, key_length, state, rest_kept: true }
     }
 
     /// The key's bytes come first in the field, and zeros behind them.
@@ -377,8 +377,9 @@ impl std::fmt::Display for Call {
 impl std::fmt::Display for Outcome {
     fn fmt(&self, to: &mut std::fmt::Formatter) -> std::fmt::Result {
         let Answer { reading, handed_out, row } = self.answer;
+        let [cipher, check] = [self.cipher, self.check].map(|words| hex(&bytes_from_words(&words)));
         let key = hex(&self.key);
         write!(to, "{} reading {reading:04x} handed out {handed_out} row {row} verdict {} ", self.number, self.verdict)?;
-        write!(to, "key {key} of {} state {} registers as due {} rest kept {}", self.key_length, self.state, self.registers_due, self.rest_kept)
+        write!(to, "cipher {cipher} check {check} key {key} of {} state {} rest kept {}", self.key_length, self.state, self.rest_kept)
     }
 }

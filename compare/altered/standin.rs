@@ -153,16 +153,21 @@ unsafe fn change(receiver: *mut Receiver, call: impl FnOnce(&mut reference::Rece
         return 1;
     }
     let f = KeyedFunction::from_key(&ours.key[..length]).expect("it fits");
-    let check = CheckRegister { c: ours.check, times: reference::coefficient };
-    let registers = Registers { cipher: CipherRegister { r: ours.cipher }, check };
+    let (r, c) = fields(ours);
+    let registers = Registers { cipher: CipherRegister { r: *r }, check: CheckRegister { c: *c, times: reference::coefficient } };
     let mut theirs = reference::Receiver { f, registers, state: state_of(ours.state) };
     let done = call(&mut theirs);
     if done.is_ok() {
-        ours.cipher = theirs.registers.cipher.r;
-        ours.check = theirs.registers.check.c;
+        let (r, c) = fields(ours);
+        (*r, *c) = (theirs.registers.cipher.r, theirs.registers.check.c);
         ours.state = byte_of(theirs.state);
     }
     number(done)
+}
+
+/// Where the two registers stand in C's memory.
+fn fields(ours: &mut Receiver) -> (&mut [u16; 17], &mut [u16; 17]) {
+    (&mut ours.cipher, &mut ours.check)
 }
 
 fn state_of(byte: u8) -> State {
