@@ -3,7 +3,6 @@ pub mod Joint
 pub mod Runs
 pub mod Crossings
 pub mod Passages
-pub mod Places
 pub mod Lines
 pub mod Tallies
 pub mod Alone

@@ -4,7 +4,6 @@ use Rattle.std.specs.List.{flat_map, range_with_len}
 use Rattle.link.specs.declared.reception.Answer.{Answer}
 use Rattle.link.specs.declared.reception.Answer.TheVariants as answer
 use Rattle.link.specs.declared.reception.Verdict.{Verdict}
-use Rattle.weld.specs.Places.{mask_of}
 use Rattle.weld.specs.declared.passage.Event.{Event}
 use Rattle.weld.specs.declared.passage.Event.TheVariants as event
 use Rattle.weld.specs.declared.passage.Sent.{Sent}
@@ -48,14 +47,14 @@ readings_from place mask (reading ∷ readings) = right place mask reading ∷ r
 -- What a line tells, thing by thing.
 abbrev pub tells : Line → List Telling
 tells (Heading message nonce) = begun message nonce ∷ []
-tells (Readings places values) = readings_from places.span.first (mask_of places.kind) values.items
-tells (False places reading plain) = wrong places.span.first (mask_of places.kind) reading plain ∷ []
+tells (Readings places values) = readings_from places.span.first places.mask values.items
+tells (False places reading plain) = wrong places.span.first places.mask reading plain ∷ []
 tells (Withheld places rows) =
-    map (λ place. withheld place (mask_of places.kind) (rows.first + (place - places.span.first)))
+    map (λ place. withheld place places.mask (rows.first + (place - places.span.first)))
     (range_with_len places.span.first (places.span.last + 1 - places.span.first))
 tells (Lost places) =
-    map (λ place. lost place (mask_of places.kind)) (range_with_len places.span.first (places.span.last + 1 - places.span.first))
-tells (Altered places wire came) = altered places.span.first (mask_of places.kind) wire came ∷ []
+    map (λ place. lost place places.mask) (range_with_len places.span.first (places.span.last + 1 - places.span.first))
+tells (Altered places wire came) = altered places.span.first places.mask wire came ∷ []
 tells Break = broken_off ∷ []
 tells (Ended tag verdict) = ended tag verdict ∷ []
 tells Abandoned = abandoned ∷ []

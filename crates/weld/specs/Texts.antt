@@ -5,28 +5,33 @@ use Rattle.std.specs.List.{flat_map}
 use Rattle.fields.specs.Texts.{hex_text}
 use Rattle.link.specs.Receiving.{verdict_text}
 use Rattle.sss.specs.Bytes.{bytes_of_words, hex_of_word}
+use Rattle.sss.specs.Masks.{kind_of}
+use Rattle.sss.specs.declared.mask.MaskKind.{MaskKind}
+use Rattle.sss.specs.declared.mask.MaskKind.TheVariants.{Sealed, Open, Part}
 use Rattle.weld.specs.Scenario.{the_run}
 use Rattle.weld.specs.declared.Findings.{Findings}
 use Rattle.weld.specs.declared.line.Line.{Line}
 use Rattle.weld.specs.declared.line.Line.TheVariants.{Heading, Readings, False, Withheld, Lost, Altered, Break, Ended, Abandoned}
-use Rattle.weld.specs.declared.places.Kind.{Kind}
-use Rattle.weld.specs.declared.places.Kind.TheVariants.{Sealed, Open, Part}
 use Rattle.weld.specs.declared.places.Places.{Places}
 use Rattle.weld.specs.declared.span.Span.{Span}
 use Rattle.weld.specs.declared.spot.SpotCheck.{SpotCheck}
 use Rattle.weld.specs.declared.tally.Tally.{Tally}
 
--- A kind, which stands behind the places of its words.
-abbrev pub kind_text : Kind → List ℕ
-kind_text Sealed = []
-kind_text Open = codes " (open)"
-kind_text (Part mask) = codes " (part, mask " ++ hex_of_word mask ++ codes ")"
+-- The kind of a mask, which stands behind the places of its words.
+abbrev pub kind_text : MaskKind → (mask : ℕ) → List ℕ
+kind_text Sealed mask = []
+kind_text Open mask = codes " (open)"
+kind_text Part mask = codes " (part, mask " ++ hex_of_word mask ++ codes ")"
 
--- Words by their places: one place, or the first and the last.
+-- Consecutive places: one place, or the first and the last.
+abbrev pub span_text : Span ℕ → List ℕ
+span_text span =
+    cond (span.first == span.last) (codes "word " ++ decimal span.first)
+    (codes "words " ++ decimal span.first ++ codes " to " ++ decimal span.last)
+
+-- Words by their places and their mask.
 abbrev pub places_text : Places → List ℕ
-places_text places =
-    cond (places.span.first == places.span.last) (codes "word " ++ decimal places.span.first ++ kind_text places.kind)
-    (codes "words " ++ decimal places.span.first ++ codes " to " ++ decimal places.span.last ++ kind_text places.kind)
+places_text places = span_text places.span ++ kind_text (kind_of places.mask) places.mask
 
 -- Words in hex, a blank before each.
 abbrev pub words_text : List ℕ → List ℕ

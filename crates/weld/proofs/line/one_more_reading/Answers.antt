@@ -14,12 +14,9 @@ returns-then-goes_on c =
     elim c.if-not-is_full.branch [
       | then-not-is_full w ↦
           let went : w.takes-goes_on.result ≡ true = sym w.goes_on-is ∙ c.if-goes_on.true in
-          let next = w.takes-goes_on.ensures.follows.0 went in
-          let longer : Longer c.args.places.now c.args.sent.now.place w.takes-goes_on.new.self = record { next = next.0; taken = rw went at w.takes-goes_on.ensures.taken } in
-          let p = c.args.places.now in
-          let p' = w.takes-goes_on.new.self in
-          let told = read_more p p' c.args.sent.now.place c.args.sent.now.mask next.1 longer c.args.values.now.items c.args.reading c.requires in
-          let fit = fit_more p p' c.args.sent.now.place c.args.sent.now.mask next.1 longer c.args.values.now.items c.args.reading c.requires in
+          let longer : Longer c.args.places.now c.args.sent.now.place c.args.sent.now.mask w.takes-goes_on.new.self = record { next = w.takes-goes_on.ensures.follows.0 went; taken = rw went at w.takes-goes_on.ensures.taken } in
+          let told = read_more longer c.args.values.now.items c.args.reading c.requires in
+          let fit = fit_more longer c.args.values.now.items c.args.reading c.requires in
           let alike : (c.args.reading == c.args.sent.now.plain) ≡ true = elim c.if-reading-sent.branch [
             | then-reading-sent v ↦ tested c.args.reading c.args.sent.now.plain v.if-reading-sent.true
             | else-reading-sent v ↦ sym v.value-is ∙ w.if-not-is_full.true

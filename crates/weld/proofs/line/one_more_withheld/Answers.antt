@@ -8,10 +8,10 @@ returns-then-goes_on c =
     elim c.if-leads_to.branch [
       | then-leads_to w ↦
           let went : w.takes-goes_on.result ≡ true = sym w.goes_on-is ∙ c.if-goes_on.true in
-          let next = w.takes-goes_on.ensures.follows.0 went in
           let rises = w.if-leads_to.ensures in
           let row : c.args.row ≡ c.args.rows.now.last + 1 = omega (arith, rises.2, rises.3, rises.4.0 refl) in
-          rw (c.if-goes_on.true, w.places-is) (withheld_more c.args.places.now w.takes-goes_on.new.self c.args.sent.now.place c.args.sent.now.mask next.1
-          (record { next = next.0; taken = rw went at w.takes-goes_on.ensures.taken }) c.args.rows.now c.take.new.self c.args.row c.requires row c.take.ensures)
+          rw (c.if-goes_on.true, w.places-is)
+          (withheld_more (record { next = w.takes-goes_on.ensures.follows.0 went; taken = rw went at w.takes-goes_on.ensures.taken })
+          c.args.rows.now c.take.new.self c.args.row c.requires row c.take.ensures)
       | else-leads_to w ↦ let no : false ≡ true = sym w.if-leads_to.false ∙ sym w.goes_on-is ∙ c.if-goes_on.true in absurd (cc)
     ]
