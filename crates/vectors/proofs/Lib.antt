@@ -4,3 +4,4 @@ pub mod Placed
 pub mod Texts
 pub mod SameWords
 pub mod Judging
+pub mod Printed

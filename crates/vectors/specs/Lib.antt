@@ -6,3 +6,4 @@ pub mod Ways
 pub mod Tallies
 pub mod Counts
 pub mod Reports
+pub mod Runs

@@ -1,11 +1,12 @@
 //! Seals and opens the messages of another program, read from standard input, and reports where the two differ.
 #![tactic(auto)]
 
-ghost use Rattle.std.specs.Prelude.{◌≡◌, OnOk};
+ghost use Rattle.std.specs.Prelude.{◌≡◌, OnOk, IfSome};
 ghost use Rattle.std.specs.Io.KnownBytes.{Appends};
 ghost use Rattle.fields.specs.Texts.{numbered};
 ghost use Rattle.vectors.specs.Counts.{Counted, Taken};
 ghost use Rattle.vectors.specs.Reports.{Compared, Prints, Told};
+ghost use Rattle.vectors.specs.Runs.{PrintsReport};
 ghost use Rattle.vectors.specs.Tallies.{after_malformed};
 ghost use Rattle.vectors.specs.Texts.{malformed_text};
 
@@ -83,22 +84,24 @@ fn take<W: Write>(
 }
 
 /// Takes each line of an input, and reports at the end how many messages differ.
-fn take_all<R: Read + Drop, W: Write>(heap: Global, reader: R, writer: &mut W) -> io::Result<()> {
+fn take_all<R: Read + Drop, W: Write>(heap: Global, reader: R, writer: &mut W) -> io::Result<()>
+    ensures { OnOk result (IfSome (R.remaining reader) (PrintsReport (W.contents writer.old) (W.contents writer.new))) }
+{
     report::figures(writer, functions::self_test())?;
     let mut tally = Tally::new();
-    // Counted here and not by `enumerate`: nothing bounds how many lines come, and the number stays at the largest one.
+    // The number of the line taken last. Counted here and not by `enumerate`: nothing bounds how many lines come, and the number stays at the largest one.
     let mut number = 0usize;
-    // The number of an empty line after which no line has come: it is no message where the input ends there.
-    let mut held = None;
+    // Whether the line read last is empty, and not taken yet: it is no message where the input ends there.
+    let mut held = false;
     for read in BufReader::new(heap, reader)?.split(heap, b'\n') {
         let line = read?;
-        number = number.saturating_add(1);
-        if let Some(empty) = held.take() {
-            take(heap, empty, b"", &mut tally, writer)?;
+        if held {
+            number = number.saturating_add(1);
+            take(heap, number, b"", &mut tally, writer)?;
         }
-        if line.is_empty() {
-            held = Some(number);
-        } else {
+        held = line.is_empty();
+        if !held {
+            number = number.saturating_add(1);
             take(heap, number, line.as_slice(), &mut tally, writer)?;
         }
     }
