@@ -1,9 +1,10 @@
 -- Texts printed one after another.
 use Rattle.std.proofs.Common.{◌≡◌, ℕ, ◌+◌, ◌<◌, List, [], ◌∷◌, ◌++◌, length, get_or, take, Option, Some, None, sym, ap, ◌∙◌, append_assoc}
 use Rattle.std.specs.Io.KnownBytes.{Appends}
-use Rattle.std.specs.List.{flat_map}
+use Rattle.std.specs.List.{concat, flat_map}
 use Rattle.std.proofs.lemmas.Grind.{flat_map-append}
 use Rattle.std.proofs.lemmas.List.{append-nil, take_more}
+use Rattle.std.proofs.lemmas.List.Folds.{concat-append}
 
 pub nothing_more : (printed : Option (List ℕ)) → Appends printed printed []
 nothing_more None = tt
@@ -20,3 +21,7 @@ pub one_more : {X Y : Type 0} (f : X → List Y) (xs : List X) (i : ℕ) (d : X)
 one_more f xs i d h =
     let x = get_or xs i d in
     sym (ap (flat_map f) (take_more xs i d h) ∙ flat_map-append f (take i xs) (x ∷ []) ∙ ap (λ ys. flat_map f (take i xs) ++ ys) (append-nil (f x)))
+
+-- Texts joined, with one text more.
+pub concat_more : (xs : List (List ℕ)) (x : List ℕ) → concat xs ++ x ≡ concat (xs ++ x ∷ [])
+concat_more xs x = sym (concat-append xs (x ∷ []) ∙ ap (λ l. concat xs ++ l) (append-nil x))

@@ -1,3 +1,4 @@
+pub mod Ahead
 pub mod Appended
 pub mod Digits
 pub mod Placed

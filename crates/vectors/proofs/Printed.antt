@@ -1,16 +1,12 @@
 -- What is printed so far of a run, line by line.
 use Rattle.std.proofs.Common.{◌≡◌, ℕ, ◌-◌, ◌<◌, ◌⊎◌, inl, inr, Bool, true, false, List, [], ◌∷◌, ◌++◌, length, take, Option, Some, None, sym, ap, ◌∙◌, refl, subst, arith, eqb-true, length-take}
-use Rattle.std.specs.Prelude.{IfSome, if◌then◌else◌, ◌==◌}
+use Rattle.std.specs.Prelude.{IfSome, ◌==◌}
 use Rattle.std.specs.Io.BufRead.{DropsThrough, drop_through, ends_with_byte, first_piece, strip_last, take_through}
-use Rattle.std.specs.Io.Buffered.{reader_buffer, reader_capacity, reader_inner, reader_remaining}
 use Rattle.std.specs.Io.KnownBytes.{Appends, IsAtEnd, prepend_known}
-use Rattle.std.specs.declared.io.buffered.BufReader.{BufReader}
 use Rattle.std.specs.List.{FoldsTo, concat}
 use Rattle.std.proofs.lemmas.Bool.{cond-true, cond-false, eqb-false}
 use Rattle.std.proofs.lemmas.Fn.{FoldsTo-push}
-use Rattle.std.proofs.lemmas.List.{append-nil}
-use Rattle.std.proofs.lemmas.List.Folds.{concat-append}
-use Rattle.fields.proofs.Appended.{nothing_more, appends_then}
+use Rattle.fields.proofs.Appended.{concat_more, nothing_more, appends_then}
 use Rattle.vectors.specs.Reports.{Prints, Told, figures_text, summary_text}
 use Rattle.vectors.specs.Runs.{AtEnd, NextLine, PrintsReport}
 use Rattle.vectors.specs.Tallies.{fresh, raised}
@@ -29,11 +25,6 @@ pub record SoFar (printed printed' : Option (List ℕ)) (input : List ℕ) (left
   pub told : FoldsTo NextLine (record { left = input; number = 0; tally = fresh }) texts (record { left = ahead held rest; number = number; tally = tally })
   pub grew : Appends printed printed' (concat texts)
 
--- A new reader has all bytes before it.
-pub all_ahead : {T A : Type 0} (remaining : T → Option (List ℕ)) (r : BufReader T A) (inner : T) → reader_inner r ≡ inner → reader_buffer r ≡ [] → reader_capacity r ≡ 8192
-    → reader_remaining remaining r ≡ prepend_known [] (remaining inner)
-all_ahead remaining r inner same empty room = λ i. if room i == 0 then None else prepend_known (empty i) (remaining (same i))
-
 -- Before the first line, where the input is known.
 pub at_start : (known printed left : Option (List ℕ)) (tally : Tally) → left ≡ prepend_known [] known → tally ≡ fresh → IfSome known (λ input. SoFar printed printed input left false 0 tally)
 at_start None printed left tally all new = tt
@@ -45,14 +36,11 @@ at_start (Some input) printed left tally all new = record {
   grew = nothing_more printed;
 }
 
-concat_more : (xs : List (List ℕ)) (x : List ℕ) → concat xs ++ x ≡ concat (xs ++ x ∷ [])
-concat_more xs x = sym (concat-append xs (x ∷ []) ∙ ap (λ l. concat xs ++ l) (append-nil x))
-
 by_test : {G : Type 0} (b : Bool) → (b ≡ true → G) → (b ≡ false → G) → G
 by_test true holds fails = holds refl
 by_test false holds fails = fails refl
 
--- What ends with no other byte keeps its first one.
+-- What begins with another byte keeps that one.
 stripped : (x : ℕ) (zs : List ℕ) → (x == 10) ≡ false → 0 < length (strip_last 10 (x ∷ zs))
 stripped x [] other = by_test (x == 10) (λ e. absurd (omega (arith, eqb-true x 10 e, eqb-false x 10 other))) (λ e. rw e (omega arith))
 stripped x (z ∷ zs) other =
@@ -68,10 +56,11 @@ empty_line (x ∷ ys) some none =
     (λ e. ap (λ (l : List ℕ). 10 ∷ l) (cond-true _ _ _ e) ∙ ap (λ (n : ℕ). n ∷ ys) (sym (eqb-true x 10 e)))
     (λ e. absurd (omega (arith, stripped x (take_through 10 ys) e, ap (λ (l : List ℕ). length (strip_last 10 l)) (sym (cond-false _ _ _ e)) ∙ none)))
 
--- A line is told under the next number, or nothing is done.
+-- A line is told under the next number.
 abbrev pub Tells : List ℕ → ℕ → Tally → Option (List ℕ) → ℕ → Tally → Option (List ℕ) → Type 0
 Tells line n t b m u c = (m ≡ raised n 1) × Prints (Told m line t u) b c
 
+-- Nothing is done.
 abbrev pub Rests : ℕ → Tally → Option (List ℕ) → ℕ → Tally → Option (List ℕ) → Type 0
 Rests n t b m u c = (n ≡ m) × (t ≡ u) × (b ≡ c)
 
@@ -80,6 +69,7 @@ abbrev pub Reads : List ℕ → Option (List ℕ) → ℕ → Option (List ℕ) 
 Reads line left' byte left = IfSome left (λ xs. (0 < length xs) × (line ≡ first_piece byte xs)) × DropsThrough left left' byte
 
 module _ (a : Option (List ℕ)) (input : List ℕ) where
+  -- Where nothing is done.
   rested : (left : Option (List ℕ)) (held : Bool) (n m : ℕ) (t u : Tally) (b c : Option (List ℕ)) → SoFar a b input left held n t → Rests n t b m u c → SoFar a c input left held m u
   rested left held n m t u b c so_far (number, tally, printed) = subst (λ (i : ℕ × Tally × Option (List ℕ)). SoFar a i.2 input left held i.0 i.1) (λ i. (number i, tally i, printed i)) so_far
 
@@ -128,27 +118,22 @@ module _ (a : Option (List ℕ)) (input : List ℕ) where
       } in
       subst (λ (h : Bool). SoFar a d input left' h k v) (sym full) (rested left' true m k u v c d after rests)
 
-  -- After one line more is read.
-  one_line : (left left' : Option (List ℕ)) (held held' : Bool) (n m k : ℕ) (t u v : Tally) (b c d : Option (List ℕ)) (line : List ℕ) → SoFar a b input left held n t → Reads line left' 10 left
-      → ((held ≡ true) × Tells [] n t b m u c) ⊎ ((held ≡ false) × Rests n t b m u c) → held' ≡ (length line == 0)
-      → ((held' ≡ false) × Tells line m u c k v d) ⊎ ((held' ≡ true) × Rests m u c k v d) → SoFar a d input left' held' k v
-  one_line left left' held held' n m k t u v b c d line so_far read first empty second =
-      line_told left left' held' m k u v c d line (held_told left left' held n m t u b c line so_far read first) read empty second
-
--- The same, where the input is known.
-pub one_line_known : (a known left left' : Option (List ℕ)) (held held' : Bool) (n m k : ℕ) (t u v : Tally) (b c d : Option (List ℕ)) (line : List ℕ) (byte : ℕ) → byte ≡ 10
+-- After one line more is read, where the input is known.
+pub one_line : (a known left left' : Option (List ℕ)) (held held' : Bool) (n m k : ℕ) (t u v : Tally) (b c d : Option (List ℕ)) (line : List ℕ) (byte : ℕ) → byte ≡ 10
     → IfSome known (λ input. SoFar a b input left held n t) → Reads line left' byte left
     → ((held ≡ true) × Tells [] n t b m u c) ⊎ ((held ≡ false) × Rests n t b m u c) → held' ≡ (length line == 0)
     → ((held' ≡ false) × Tells line m u c k v d) ⊎ ((held' ≡ true) × Rests m u c k v d) → IfSome known (λ input. SoFar a d input left' held' k v)
-one_line_known a None left left' held held' n m k t u v b c d line byte ten so_far read first empty second = tt
-one_line_known a (Some input) left left' held held' n m k t u v b c d line byte ten so_far read first empty second =
-    one_line a input left left' held held' n m k t u v b c d line so_far (subst (λ (x : ℕ). Reads line left' x left) ten read) first empty second
+one_line a None left left' held held' n m k t u v b c d line byte ten so_far read first empty second = tt
+one_line a (Some input) left left' held held' n m k t u v b c d line byte ten so_far read first empty second =
+    let read : Reads line left' 10 left = subst (λ (x : ℕ). Reads line left' x left) ten read in
+    line_told a input left left' held' m k u v c d line (held_told a input left left' held n m t u b c line so_far read first) read empty second
 
 -- What is told under other names for the same.
 pub tells_as : (line line' : List ℕ) (n m m' : ℕ) (t u u' : Tally) (b c c' : Option (List ℕ)) → line' ≡ line → m ≡ m' → u ≡ u' → c ≡ c' → Tells line' n t b m' u' c' → Tells line n t b m u c
 tells_as line line' n m m' t u u' b c c' lines number tally printed =
     subst (λ (i : List ℕ × ℕ × Tally × Option (List ℕ)). Tells i.0 n t b i.1 i.2 i.3) (λ i. (lines i, sym number i, sym tally i, sym printed i))
 
+-- Where nothing is left of the input, no more is told.
 ended_at : (held : Bool) → AtEnd (ahead held [])
 ended_at true = inr refl
 ended_at false = inl refl

@@ -2,8 +2,9 @@ use Rattle.std.proofs.Common.{ℕ, List, vec_items, ap, subst, ◌∙◌}
 use Rattle.std.proofs.lemmas.Result.{IfOk-at_ok}
 use Rattle.std.specs.Io.Buffered.{reader_remaining}
 use Rattle.std.specs.Io.Iter.{split_byte, split_known_bytes}
+use Rattle.fields.proofs.Ahead.{all_ahead}
 use Rattle.requests.specs.Runs.{Takes}
-use Rattle.requests.proofs.Printed.{all_ahead, at_start, one_line}
+use Rattle.requests.proofs.Printed.{at_start, one_line}
 use Rattle.requests.proofs.take_all.Goals as goal
 
 pub loop-line-init : goal.loop-line-init

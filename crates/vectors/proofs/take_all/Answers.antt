@@ -3,7 +3,8 @@ use Rattle.std.specs.Prelude.{◌==◌}
 use Rattle.std.proofs.lemmas.Result.{IfOk-at_ok, on_ok_weaker}
 use Rattle.std.specs.Io.Buffered.{reader_remaining}
 use Rattle.std.specs.Io.Iter.{split_byte, split_known_bytes}
-use Rattle.vectors.proofs.Printed.{Rests, Tells, all_ahead, at_end, at_start, one_line_known, tells_as}
+use Rattle.fields.proofs.Ahead.{all_ahead}
+use Rattle.vectors.proofs.Printed.{Rests, Tells, at_end, at_start, one_line, tells_as}
 use Rattle.vectors.proofs.take_all.Goals.{then-held+in_ok-take, else-held, then-not-held+in_ok-take-2, else-not-held}
 use Rattle.vectors.proofs.take_all.Goals as goal
 
@@ -35,7 +36,7 @@ loop-read-preserved g c =
       | else-not-held w ↦ inr (w.if-not-held.false, (sym w.number-is, sym w.tally-is, ap contents (sym w.writer-is)))
     ] in (
       steps.1 ∙ c.loop-read.invariant.0,
-      one_line_known (contents c.figures.new.writer) (g.R.Read.remaining c.args.reader) _ _ c.loop-read.held held _ _ _ _ _ _ at then _ (vec_items line) _ c.loop-read.invariant.0 c.loop-read.invariant.1 read first (c.is_empty-held.ensures ∙ ap (λ n. n == 0) line.ok.0) second,
+      one_line (contents c.figures.new.writer) (g.R.Read.remaining c.args.reader) _ _ c.loop-read.held held _ _ _ _ _ _ at then _ (vec_items line) _ c.loop-read.invariant.0 c.loop-read.invariant.1 read first (c.is_empty-held.ensures ∙ ap (λ n. n == 0) line.ok.0) second,
     )
 
 pub returns : goal.returns
