@@ -20,11 +20,7 @@ fn drawn(run: u32, message: u16) -> Nonce
     ensures run { result.run ≡ run }
     ensures message { result.message ≡ message }
 {
-    let mut issuer = Issuer::new(run);
-    for _earlier in 0..message {
-        let _ = issuer.draw();
-    }
-    issuer.draw().unwrap()
+    Issuer::resumed(run, message.into()).draw().unwrap()
 }
 
 /// The nonce whose six bytes are these.
