@@ -18,7 +18,7 @@ use Rattle.link.specs.declared.reception.Reception.TheVariants.{Lost, Whole}
 use Rattle.link.specs.declared.reception.Verdict.{Verdict}
 use Rattle.message.specs.Outcomes.{CallAnswer}
 use Rattle.capi.specs.Calls.{Outcome, WhereFits, answered, done, number_answered, outcome, refused}
-use Rattle.capi.specs.Receivers.{LostWithholds, Receiving, SetUp, answer_given, begin_due, finish_due, function_of, receiving, reception_of, registers_of, put_down, verdict_number, word_due}
+use Rattle.capi.specs.Receivers.{LostWithholds, SetUp, Written, answer_given, begin_due, finish_due, function_held, put_down, reception_of, registers_held, verdict_number, word_due, written}
 use Rattle.capi.specs.Standing.{Stands}
 use Rattle.capi.specs.declared.receiver.FutsambolyReceiver.{FutsambolyReceiver}
 use Rattle.capi.specs.declared.receiver.FutsambolyAnswer.{FutsambolyAnswer}
@@ -46,25 +46,25 @@ module _ (r r' : FutsambolyReceiver) (s : Receiver FromKey PrintedTable) (stands
       answer ≡ answer_of (decided s.footing.reception (Word mask)).1 (plain_word (keyed (from_key_table s.engine.function)) s.engine.registers mask wire) →
       left ≡ taken (keyed (from_key_table s.engine.function)) product s.engine.registers mask (plain_word (keyed (from_key_table s.engine.function)) s.engine.registers mask wire) →
       reception ≡ (decided s.footing.reception (Word mask)).0 → given ≡ answer_given answer →
-      WhereFits (SetUp r) Key (receiving r found) (word_due mask wire r) 0 (receiving r' given)
+      WhereFits (SetUp r) Key (written r found) (word_due mask wire r) 0 (written r' given)
   unfolding word_due
   takes_word mask wire found given answer answered registers moved noted =
       set_up_so r stands.set_up
-      ((λ i. done (receiving (kept i) (noted i))) ∙ (λ i. done (receiving (put_down r (registers i) (moved i)) (answer_given (answered i)))) ∙
+      ((λ i. done (written (kept i) (noted i))) ∙ (λ i. done (written (put_down r (registers i) (moved i)) (answer_given (answered i)))) ∙
       (λ i.
       let plain : ℕ = plain_word (keyed (stands.function i)) (stands.registers i) mask wire in
-      done (receiving (put_down r (taken (keyed (stands.function i)) product (stands.registers i) mask plain) (decided (stands.reception i) (Word mask)).0)
+      done (written (put_down r (taken (keyed (stands.function i)) product (stands.registers i) mask plain) (decided (stands.reception i) (Word mask)).0)
       (answer_given (answer_of (decided (stands.reception i) (Word mask)).1 plain)))))
 
   pub finishes : (received words : List ℕ) (found number : ℕ) (verdict : Verdict) → length received ≡ 16 → words ≡ words_of received →
       verdict ≡ verdict_of (decided s.footing.reception Finish).1 words (tag (keyed (from_key_table s.engine.function)) s.engine.registers) →
       left ≡ zeroed → reception ≡ Lost 0 → number ≡ verdict_number verdict →
-      WhereFits (SetUp r) Key (receiving r found) (finish_due received (receiving r found)) 0 (receiving r' number)
+      WhereFits (SetUp r) Key (written r found) (finish_due received (written r found)) 0 (written r' number)
   unfolding finish_due
   finishes received words found number verdict long same judged registers lost noted =
       set_up_so r stands.set_up
-      ((λ i. done (receiving (kept i) (noted i))) ∙ (λ i. done (receiving (put_down r (registers i) (lost i)) (verdict_number (judged i)))) ∙
-      (λ i. done (receiving (put_down r zeroed (Lost 0))
+      ((λ i. done (written (kept i) (noted i))) ∙ (λ i. done (written (put_down r (registers i) (lost i)) (verdict_number (judged i)))) ∙
+      (λ i. done (written (put_down r zeroed (Lost 0))
       (verdict_number (verdict_of (decided (stands.reception i) Finish).1 (same i) (tag (keyed (stands.function i)) (stands.registers i)))))) ∙
       sym (cond-true _ _ _ (eq-eqb (length received) 16 long)))
 
@@ -75,10 +75,10 @@ module _ (r : FutsambolyReceiver) (s : Receiver FromKey PrintedTable) (stands : 
       set_up_so r stands.set_up (refused_so r answer fault Nonce is same ∙ sym (cond-false _ _ _ (nonce_fits_false nonce unfit)))
 
   pub finish_refused : (received : List ℕ) (found : ℕ) → (length received ≡ 16 → ⊥) → fault ≡ TagLength →
-      WhereFits (SetUp r) Key (receiving r found) (finish_due received (receiving r found)) (number_answered answer) (receiving r found)
+      WhereFits (SetUp r) Key (written r found) (finish_due received (written r found)) (number_answered answer) (written r found)
   unfolding finish_due
   finish_refused received found unfit same =
-      set_up_so r stands.set_up (refused_so (receiving r found) answer fault TagLength is same ∙ sym (cond-false _ _ _ (ne_eqb (length received) 16 unfit)))
+      set_up_so r stands.set_up (refused_so (written r found) answer fault TagLength is same ∙ sym (cond-false _ _ _ (ne_eqb (length received) 16 unfit)))
 
 -- What a byte that is neither 17 nor 18 says.
 says_lost : (byte : ℕ) → byte ≢ 17 → byte ≢ 18 → reception_of byte ≡ Lost (cond (nat_le byte 16) byte 0)
@@ -86,11 +86,11 @@ says_lost byte not_caught not_whole = cond-false _ _ _ (ne_eqb byte 18 not_whole
 
 -- A lost receiver withholds.
 pub lost_withholds : (r : FutsambolyReceiver) (mask wire : ℕ) (found given : FutsambolyAnswer) (number : ℕ) (r' : FutsambolyReceiver) →
-    WhereFits (SetUp r) Key (receiving r found) (word_due mask wire r) number (receiving r' given) → LostWithholds r given
+    WhereFits (SetUp r) Key (written r found) (word_due mask wire r) number (written r' given) → LostWithholds r given
 unfolding word_due
 lost_withholds r mask wire found given number r' said fits not_caught not_whole =
     let lost = says_lost r.state not_caught not_whole in
-    let is = ap (λ (o : Outcome (Receiving FutsambolyAnswer)). o.memory.answer) (said.fits fits) in
-    let plain = plain_word (function_of r) (registers_of r) mask wire in
+    let is = ap (λ (o : Outcome (Written FutsambolyAnswer)). o.memory.answer) (said.fits fits) in
+    let plain = plain_word (function_held r) (registers_held r) mask wire in
     let withheld = is ∙ ap (λ (at : Reception). answer_given (answer_of (decided at (Word mask)).1 plain)) lost in
     (ap (λ (a : FutsambolyAnswer). a.handed_out) withheld, ap (λ (a : FutsambolyAnswer). a.reading) withheld)

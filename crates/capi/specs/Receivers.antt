@@ -22,12 +22,12 @@ SetUp r = (1 ≤ r.key_length) × (r.key_length ≤ 16)
 abbrev pub key_of : FutsambolyReceiver → List ℕ
 key_of r = take r.key_length r.key
 
-abbrev pub function_of : FutsambolyReceiver → ℕ → ℕ
-function_of r = keyed (key_table (key_of r))
+abbrev pub function_held : FutsambolyReceiver → ℕ → ℕ
+function_held r = keyed (key_table (key_of r))
 
 -- Its registers.
-abbrev pub registers_of : FutsambolyReceiver → BothRegisters
-registers_of r = record { r = r.cipher; c = r.check }
+abbrev pub registers_held : FutsambolyReceiver → BothRegisters
+registers_held r = record { r = r.cipher; c = r.check }
 
 -- Where it stands, by its byte: 18 is whole, 17 is caught, 0 to 16 is lost with that row, and any other is lost with row 0.
 abbrev pub reception_of : ℕ → Reception
@@ -59,35 +59,35 @@ verdict_number Differs = 2
 verdict_number Broken = 3
 
 -- What a call may write: the receiver, and the answer or the number of the verdict.
-pub record Receiving (T : Type 0) : Type 0 where
+pub record Written (T : Type 0) : Type 0 where
   pub receiver : FutsambolyReceiver
   pub answer : T
 
-abbrev pub receiving : {T : Type 0} → FutsambolyReceiver → T → Receiving T
-receiving receiver answer = record { receiver = receiver; answer = answer }
+abbrev pub written : {T : Type 0} → FutsambolyReceiver → T → Written T
+written receiver answer = record { receiver = receiver; answer = answer }
 
 -- WHAT THE CALLS ON A RECEIVER THAT IS SET UP COME TO. A begin: it is whole, with the registers of the nonce. A nonce that does not fit is refused.
 unfoldable pub begin_due : (nonce : List ℕ) → FutsambolyReceiver → Outcome FutsambolyReceiver
-begin_due nonce r = cond (nonce_fits nonce) (done (put_down r (begun (function_of r) product nonce) Whole)) (refused Nonce r)
+begin_due nonce r = cond (nonce_fits nonce) (done (put_down r (begun (function_held r) product nonce) Whole)) (refused Nonce r)
 
 -- A word: both registers take it, whatever the state. State and mask decide where the receiver then stands, and what is handed out.
-unfoldable pub word_due : (mask wire : ℕ) → FutsambolyReceiver → Outcome (Receiving FutsambolyAnswer)
+unfoldable pub word_due : (mask wire : ℕ) → FutsambolyReceiver → Outcome (Written FutsambolyAnswer)
 word_due mask wire r =
-    let plain : ℕ = plain_word (function_of r) (registers_of r) mask wire in
-    done (receiving (put_down r (taken (function_of r) product (registers_of r) mask plain) (decided (reception_of r.state) (Word mask)).0)
+    let plain : ℕ = plain_word (function_held r) (registers_held r) mask wire in
+    done (written (put_down r (taken (function_held r) product (registers_held r) mask plain) (decided (reception_of r.state) (Word mask)).0)
     (answer_given (answer_of (decided (reception_of r.state) (Word mask)).1 plain)))
 
 -- A break: it is lost with row 0, and no register is touched.
 abbrev pub break_due : FutsambolyReceiver → Outcome FutsambolyReceiver
-break_due r = done (put_down r (registers_of r) (Lost 0))
+break_due r = done (put_down r (registers_held r) (Lost 0))
 
 -- A finish: the verdict on the tag, and it is lost with row 0, its registers zero. A tag that has not 16 bytes is refused.
-unfoldable pub finish_due : (received : List ℕ) → Receiving ℕ → Outcome (Receiving ℕ)
+unfoldable pub finish_due : (received : List ℕ) → Written ℕ → Outcome (Written ℕ)
 finish_due received found =
     let r : FutsambolyReceiver = found.receiver in
-    let drawn : List ℕ = tag (function_of r) (registers_of r) in
+    let drawn : List ℕ = tag (function_held r) (registers_held r) in
     cond (length received == 16)
-    (done (receiving (put_down r zeroed (Lost 0)) (verdict_number (verdict_of (decided (reception_of r.state) Finish).1 (words_of received) drawn))))
+    (done (written (put_down r zeroed (Lost 0)) (verdict_number (verdict_of (decided (reception_of r.state) Finish).1 (words_of received) drawn))))
     (refused TagLength found)
 
 -- A LOST RECEIVER WITHHOLDS, whatever its registers hold: where it is set up and its byte is neither 17 nor 18, a word is not handed out, and its

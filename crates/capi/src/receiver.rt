@@ -2,7 +2,7 @@
 ghost use Rattle.std.specs.Prelude.{◌≡◌, length, MatchResult};
 ghost use Rattle.sss.specs.Cipher.{KeyFits, words_of};
 ghost use Rattle.capi.specs.Calls.{WhereFits, done, number_answered};
-ghost use Rattle.capi.specs.Receivers.{LostWithholds, SetUp, answer_given, begin_due, break_due, finish_due, new_receiver, receiving, verdict_number, word_due};
+ghost use Rattle.capi.specs.Receivers.{LostWithholds, SetUp, answer_given, begin_due, break_due, finish_due, new_receiver, verdict_number, word_due, written};
 
 use crate::answer::number;
 use crate::standing::{put_down, take_up};
@@ -63,7 +63,7 @@ pub extern "C" fn futsamboly_receiver_word(
     wire: u16,
     answer: &mut FutsambolyAnswer,
 ) -> u32
-    ensures outcome { WhereFits (SetUp receiver.old) Fault.Key (receiving receiver.old answer.old) (word_due mask wire receiver.old) result (receiving receiver.new answer.new) }
+    ensures outcome { WhereFits (SetUp receiver.old) Fault.Key (written receiver.old answer.old) (word_due mask wire receiver.old) result (written receiver.new answer.new) }
     ensures withheld { LostWithholds receiver.old answer.new }
 {
     number(word(receiver, mask, wire, answer))
@@ -84,7 +84,7 @@ pub extern "C" fn futsamboly_receiver_finish(
     tag: &[u8],
     verdict: &mut u8,
 ) -> u32
-    ensures { WhereFits (SetUp receiver.old) Fault.Key (receiving receiver.old verdict.old) (finish_due tag.now (receiving receiver.old verdict.old)) result (receiving receiver.new verdict.new) }
+    ensures { WhereFits (SetUp receiver.old) Fault.Key (written receiver.old verdict.old) (finish_due tag.now (written receiver.old verdict.old)) result (written receiver.new verdict.new) }
 {
     number(finish(receiver, tag, verdict))
 }
@@ -123,7 +123,7 @@ fn word(
     wire: u16,
     answer: &mut FutsambolyAnswer,
 ) -> Result<(), Fault>
-    ensures { WhereFits (SetUp receiver.old) Fault.Key (receiving receiver.old answer.old) (word_due mask wire receiver.old) (number_answered result) (receiving receiver.new answer.new) }
+    ensures { WhereFits (SetUp receiver.old) Fault.Key (written receiver.old answer.old) (word_due mask wire receiver.old) (number_answered result) (written receiver.new answer.new) }
 {
     let mut linked = take_up(receiver)?;
     *answer = answer_given(linked.word(mask, wire));
@@ -143,7 +143,7 @@ fn break_off(receiver: &mut FutsambolyReceiver) -> Result<(), Fault>
 
 /// Takes the receiver up, ends the message with its tag, and puts it down.
 fn finish(receiver: &mut FutsambolyReceiver, tag: &[u8], verdict: &mut u8) -> Result<(), Fault>
-    ensures { WhereFits (SetUp receiver.old) Fault.Key (receiving receiver.old verdict.old) (finish_due tag.now (receiving receiver.old verdict.old)) (number_answered result) (receiving receiver.new verdict.new) }
+    ensures { WhereFits (SetUp receiver.old) Fault.Key (written receiver.old verdict.old) (finish_due tag.now (written receiver.old verdict.old)) (number_answered result) (written receiver.new verdict.new) }
 {
     let mut linked = take_up(receiver)?;
     let words = tag_words(tag)?;
