@@ -1,5 +1,5 @@
 -- What the promises ask for can be met: an instance of each.
-use Rattle.std.proofs.Common.{◌≡◌, ◌≢◌, ℕ, ◌≤◌, List, [], ◌∷◌, length, take, replicate, refl, arith}
+use Rattle.std.proofs.Common.{◌≡◌, ◌≢◌, ℕ, [], ◌∷◌, replicate, refl, arith}
 use Rattle.sss.specs.Cipher.{KeyFits}
 use Rattle.message.specs.Checks.{seal_fault}
 use Rattle.message.specs.Outcomes.{seal_outcome}

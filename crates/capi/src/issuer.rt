@@ -1,5 +1,4 @@
 //! The issuer of a run and a message's nonce, in the caller's memory.
-ghost use Rattle.std.specs.Prelude.{◌≡◌};
 ghost use Rattle.capi.specs.Issuers.{Draws};
 
 use link::{Issuer, Nonce};

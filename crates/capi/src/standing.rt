@@ -25,7 +25,7 @@ pub(crate) fn take_up(
 {
     let function = key_function(receiver)?;
     let registers = Registers::from_words(receiver.cipher, receiver.check);
-    // A row that has not caught up is always a state, and the checker proves that this does not stop.
+    // A lost receiver's row is below seventeen here, so one stands so, and this is proved not to stop.
     let linked = Receiver::resumed(
         function,
         PrintedTable,

@@ -1,5 +1,5 @@
 -- Wire words as the receiving side takes them, and what holds of both registers as they are taken.
-use Rattle.std.proofs.Common.{◌≡◌, ℕ, zero, suc, ◌-◌, ◌<◌, List, [], ◌∷◌, ◌++◌, map, length, get_or, drop, set, replicate, refl, sym, ap, ◌∙◌, lt_of_le_of_lt, arith}
+use Rattle.std.proofs.Common.{◌≡◌, ℕ, zero, suc, ◌<◌, List, [], ◌∷◌, ◌++◌, map, length, get_or, drop, set, replicate, refl, sym, ap, ◌∙◌, lt_of_le_of_lt, arith}
 use lib.Bits.{bit_and, bit_xor, and_le_r}
 use Rattle.std.specs.List.{AllByRecursion as Every}
 use Rattle.std.proofs.lemmas.List.{length_push, length-drop}

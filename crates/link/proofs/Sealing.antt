@@ -12,7 +12,6 @@ use Rattle.link.specs.Ends.{SealerState, ready, in_message, sealer_made, SealerC
 use Rattle.link.specs.Log.{Sent, Message, sent_too, message_noted, Since, one_more, sent_noted, plain_of, wire_of, start_of}
 use Rattle.link.specs.declared.issuer.Nonce.{Nonce}
 use Rattle.link.specs.declared.call.SealerCall.{SealerCall}
-use Rattle.link.specs.declared.issuer.Nonce.{Nonce}
 use Rattle.link.specs.declared.call.SealerCall.TheVariants.{Begin, Word as Seal, Finish, Abandon}
 use Rattle.link.specs.declared.call.SealerEntry.{SealerEntry}
 use Rattle.link.specs.declared.call.SealerEntry.TheVariants as sealer

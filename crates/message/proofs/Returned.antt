@@ -1,5 +1,5 @@
 -- Open after seal, and exactly when open answers well.
-use Rattle.std.proofs.Common.{◌≡◌, ℕ, ◌*◌, ◌%◌, ◌<◌, Bool, false, cond, List, [], length, map, replicate, take, drop, Option, Some, None, Ok, Err, refl, inl, inr, sym, ap, ◌∙◌, arith, ◌≢◌}
+use Rattle.std.proofs.Common.{◌≡◌, ℕ, ◌*◌, ◌%◌, ◌<◌, Bool, false, cond, List, length, map, replicate, take, drop, Option, Some, None, Ok, Err, refl, inl, inr, sym, ap, ◌∙◌, arith, ◌≢◌}
 use Rattle.std.specs.List.{AllByRecursion as Every}
 use Rattle.std.specs.Str.{bytes_eq}
 use Rattle.std.proofs.lemmas.Bool.{and_from, cases_Bool, eq-eqb, le-leb}

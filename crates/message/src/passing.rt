@@ -22,7 +22,7 @@ pub(crate) fn pass_message<D: Direction, K: KeyedFunction, C: Coefficient>(
     ensures { Asked K.KeyedFunction f.old f.new (λ g. (bytes.new ≡ text_bytes (D.words g (C.image a.now) (begun g (C.image a.now) nonce.now) (words_under masks.now bytes.old))) × (result ≡ bytes_of_words (tag g (D.last g (C.image a.now) (begun g (C.image a.now) nonce.now) (words_under masks.now bytes.old))))) }
 {
     let mut registers = Registers::new();
-    // A nonce that fits is never refused, and the checker proves that this does not stop.
+    // A nonce that fits is never refused, so this is proved not to stop.
     registers.begin(f, a, nonce).unwrap();
     pass_bytes::<D, K, C>(&mut registers, f, a, masks, bytes);
     bytes_of_tag(registers.close(f))

@@ -1,5 +1,4 @@
 //! A message that comes back: sealed with one function, and opened with one of another make.
-ghost use Rattle.std.specs.Prelude.{◌≡◌};
 ghost use Rattle.message_examples.specs.Instances.{CameBack, IsSealed};
 
 use functions::{FieldRule, FilledTable, FromKey, LazyTable, PrintedTable};

@@ -1,5 +1,5 @@
 //! Seventeen words that shift by one as a word enters.
-ghost use Rattle.std.specs.Prelude.{◌≡◌, ◌<◌, [], ◌∷◌, ◌++◌, length, drop, replicate, slice_index, slice_set};
+ghost use Rattle.std.specs.Prelude.{◌≡◌, ◌<◌, [], ◌∷◌, ◌++◌, drop, replicate, slice_index, slice_set};
 
 use std::marker::{Model, PhantomData};
 

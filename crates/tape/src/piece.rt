@@ -85,7 +85,7 @@ impl TagItem<'_> {
     pub fn tag(&self) -> [u16; 8]
         ensures { result ≡ words_of (drop 1 self.now.bytes.now) }
     {
-        // Sixteen bytes stand behind the command byte, and the checker proves that this does not stop.
+        // Sixteen bytes stand behind the command byte, so this is proved not to stop.
         tag_of_bytes(self.bytes.last_chunk().unwrap())
     }
 }

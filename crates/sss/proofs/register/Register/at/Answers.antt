@@ -1,4 +1,4 @@
-use Rattle.std.proofs.Common.{◌≡◌, ℕ, ◌+◌, ◌≤◌, ◌<◌, List, length, get_or, sym, ap, ◌∙◌, rules, arith}
+use Rattle.std.proofs.Common.{ℕ, ◌+◌, ◌≤◌, ◌<◌, List, length, get_or, sym, ap, ◌∙◌, rules, arith}
 use Rattle.sss.proofs.Windows.{view, view_at, view_newest}
 use Rattle.sss.proofs.register.Register.at.Goals as goal
 

@@ -1,7 +1,7 @@
 use Rattle.std.proofs.Common.{◌≡◌, ℕ, ◌+◌, ◌<◌, ◌≤◌, List, [], ◌∷◌, ◌++◌, length, take, drop, set, sym, ap, ◌∙◌, arith, rules}
 use Rattle.std.proofs.lemmas.List.Edits.{take-paste}
 use Rattle.std.proofs.lemmas.List.{length-drop}
-use Rattle.sss.proofs.Windows.{view, view_push, window}
+use Rattle.sss.proofs.Windows.{view, view_push}
 use Rattle.sss.proofs.register.Register.push.Goals as goal
 use Rattle.sss.proofs.register.Register.push.Goals.{then-self, else-self}
 

@@ -1,4 +1,4 @@
-use Rattle.std.proofs.Common.{◌≡◌, ℕ, ◌+◌, ◌≤◌, ◌<◌, List, length, set, sym, ap, ◌∙◌, rules, arith}
+use Rattle.std.proofs.Common.{ℕ, ◌+◌, ◌≤◌, ◌<◌, List, length, set, sym, ap, ◌∙◌, rules, arith}
 use Rattle.sss.proofs.Windows.{view, view_put, view_newest_put}
 use Rattle.sss.proofs.register.Register.put.Goals as goal
 

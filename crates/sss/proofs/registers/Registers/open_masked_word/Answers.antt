@@ -1,5 +1,4 @@
 use Rattle.std.proofs.Common.{ap, ◌∙◌}
-use lib.Bits.{bit_and, bit_xor}
 use Rattle.sss.specs.Cipher.{BothRegisters, keystream}
 use Rattle.sss.proofs.Asked.{asked_then}
 use Rattle.sss.proofs.BothRegisters.{opened_with}
