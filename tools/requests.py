@@ -273,7 +273,7 @@ def asked(line):
         raise Unread("not text")
     call, *fields = line.split(b" ")
     if len(fields) != 6:
-        raise Unread(f"7 parts are wanted, and it has {len(fields) + 1}")
+        raise Unread(f"7 fields are wanted, and it has {len(fields) + 1}")
     if call not in CALLS:
         raise Unread("neither seal nor open")
     for (name, check), field in zip(CALLS[call], fields):

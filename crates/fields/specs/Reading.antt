@@ -10,11 +10,11 @@ use Rattle.fields.specs.declared.reading.NotBytes.TheVariants.{NoDigits, OddDigi
 abbrev pub FieldBytes : List ℕ → List ℕ → Type 0
 FieldBytes text bytes = ((text ≡ codes "-") × (bytes ≡ [])) ⊎ ((0 < length text) × (decode_of text ≡ Ok bytes))
 
--- The text stands for no bytes at all.
+-- The text is neither `-` nor hex digits, two to a byte.
 abbrev pub Unreadable : List ℕ → Type 0
 Unreadable text = (bytes : List ℕ) → FieldBytes text bytes → ⊥
 
--- It stands for none, and this is why; or there was no memory, which is asked for only where digits come in pairs.
+-- Reading the text fails, for this reason: it is neither of these; or there was no memory, which is asked for only where digits come in pairs.
 abbrev pub NoBytes : List ℕ → NotBytes → Type 0
 NoBytes text NoDigits = Unreadable text × (length text ≡ 0)
 NoBytes text OddDigits = Unreadable text × (length text % 2 ≡ 1)

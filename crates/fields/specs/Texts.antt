@@ -10,7 +10,7 @@ abbrev pub hex_text : List ℕ → List ℕ
 hex_text [] = codes "-"
 hex_text (b ∷ bs) = encode_lower (b ∷ bs)
 
--- Why a field's text stands for no bytes.
+-- Why reading a field's text failed.
 abbrev pub not_bytes_text : NotBytes → List ℕ
 not_bytes_text NoDigits = codes "no digits, where an empty field is written -"
 not_bytes_text OddDigits = codes "an odd number of digits"

@@ -7,7 +7,7 @@ use hex::FromHexError;
 use std::alloc::Global;
 use std::fmt;
 
-/// Why the text of a field stands for no bytes.
+/// Why reading the text of a field failed.
 #[derive(Clone, Copy, Debug)]
 pub enum NotBytes {
     /// The text has no character at all.

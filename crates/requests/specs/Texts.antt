@@ -31,7 +31,7 @@ flaw_text flaw.NotALength = codes "not a number from 0 to 1000000"
 -- Why a line is no request.
 abbrev pub unread_text : Unread → List ℕ
 unread_text unread.NotText = codes "not text"
-unread_text (unread.Parts n) = codes "7 parts are wanted, and it has " ++ decimal n
+unread_text (unread.Fields n) = codes "7 fields are wanted, and it has " ++ decimal n
 unread_text unread.OtherCall = codes "neither seal nor open"
 unread_text (unread.InField field flaw) = codes "field " ++ field_text field ++ codes ": " ++ flaw_text flaw
 unread_text unread.NoMemory = codes "no memory for it"

@@ -1,5 +1,5 @@
 //! The fields of a line, and what the text of each stands for.
-ghost use Rattle.std.specs.Prelude.{◌≡◌, Some, MatchResult};
+ghost use Rattle.std.specs.Prelude.{Some, MatchResult};
 ghost use Rattle.fields.specs.Reading.{FieldBytes};
 ghost use Rattle.requests.specs.Fields.{NoBytes, NonceBytes, NoNonce, LengthOf, NoLength};
 ghost use Rattle.requests.specs.Texts.{field_text, flaw_text};
@@ -42,7 +42,7 @@ impl fmt::Display for Field {
     }
 }
 
-/// Why the text of a field stands for nothing.
+/// Why reading the text of a field failed.
 #[derive(Clone, Copy, Debug)]
 pub enum Flaw {
     /// The text is not bytes in hex, or there was no memory to hold them.

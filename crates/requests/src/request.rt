@@ -16,9 +16,9 @@ use std::fmt;
 pub enum Unread {
     /// The line is not UTF-8.
     NotText,
-    /// The line has this many parts, which is not seven.
-    Parts(usize),
-    /// The first part is another word.
+    /// The line has this many fields, which is not seven.
+    Fields(usize),
+    /// The first field is another word.
     OtherCall,
     /// One field is flawed.
     InField(Field, Flaw),
@@ -32,7 +32,7 @@ impl fmt::Display for Unread {
     fn fmt<W: fmt::Write>(&self, f: &mut fmt::Formatter<W>) -> fmt::Result {
         match self {
             Unread::NotText => write!(f, "not text"),
-            Unread::Parts(parts) => write!(f, "7 parts are wanted, and it has {parts}"),
+            Unread::Fields(count) => write!(f, "7 fields are wanted, and it has {count}"),
             Unread::OtherCall => write!(f, "neither seal nor open"),
             Unread::InField(field, flaw) => write!(f, "field {field}: {flaw}"),
             Unread::NoMemory => write!(f, "no memory for it"),
@@ -48,9 +48,9 @@ impl From<AllocError> for Unread {
     }
 }
 
-/// The texts of a line's seven parts: the call, and its fields in their order.
+/// The texts of a line's seven fields, the call first.
 #[derive(Clone, Copy)]
-pub struct Parts<'a> {
+pub struct Fields<'a> {
     pub call: &'a str,
     pub key: &'a str,
     pub nonce: &'a str,
@@ -63,16 +63,16 @@ pub struct Parts<'a> {
     pub seventh: &'a str,
 }
 
-impl<'a> Parts<'a> {
+impl<'a> Fields<'a> {
     /// Cuts a line at each blank.
-    fn cut(heap: Global, line: &'a str) -> Result<Parts<'a>, Unread>
-        ensures { MatchResult result (λ p. Cut line.now (texts_of p)) (NotCut line.now) }
+    fn cut(heap: Global, line: &'a str) -> Result<Fields<'a>, Unread>
+        ensures { MatchResult result (λ f. Cut line.now (texts_of f)) (NotCut line.now) }
     {
         let texts = fields::pieces(heap, line)?;
         let [call, key, nonce, masks, input, sixth, seventh] = *texts.as_slice() else {
-            return Err(Unread::Parts(texts.len()));
+            return Err(Unread::Fields(texts.len()));
         };
-        Ok(Parts {
+        Ok(Fields {
             call,
             key,
             nonce,
@@ -104,16 +104,16 @@ pub struct SealRequest {
 
 impl SealRequest {
     /// Reads the fields of `seal`.
-    fn read(heap: Global, parts: Parts<'_>) -> Result<SealRequest, Unread>
-        ensures { MatchResult result (ReadsSealing (texts_of parts.entry)) (NoSealing (texts_of parts.entry)) }
+    fn read(heap: Global, fields: Fields<'_>) -> Result<SealRequest, Unread>
+        ensures { MatchResult result (ReadsSealing (texts_of fields.entry)) (NoSealing (texts_of fields.entry)) }
     {
         Ok(SealRequest {
-            key: in_field(Field::Key, field::bytes(heap, parts.key))?,
-            nonce: in_field(Field::Nonce, field::nonce(parts.nonce))?,
-            masks: in_field(Field::Masks, field::bytes(heap, parts.masks))?,
-            plaintext: in_field(Field::Plaintext, field::bytes(heap, parts.input))?,
-            room: in_field(Field::Room, field::length(parts.sixth))?,
-            tag_room: in_field(Field::TagRoom, field::length(parts.seventh))?,
+            key: in_field(Field::Key, field::bytes(heap, fields.key))?,
+            nonce: in_field(Field::Nonce, field::nonce(fields.nonce))?,
+            masks: in_field(Field::Masks, field::bytes(heap, fields.masks))?,
+            plaintext: in_field(Field::Plaintext, field::bytes(heap, fields.input))?,
+            room: in_field(Field::Room, field::length(fields.sixth))?,
+            tag_room: in_field(Field::TagRoom, field::length(fields.seventh))?,
         })
     }
 }
@@ -131,16 +131,16 @@ pub struct OpenRequest {
 
 impl OpenRequest {
     /// Reads the fields of `open`.
-    fn read(heap: Global, parts: Parts<'_>) -> Result<OpenRequest, Unread>
-        ensures { MatchResult result (ReadsOpening (texts_of parts.entry)) (NoOpening (texts_of parts.entry)) }
+    fn read(heap: Global, fields: Fields<'_>) -> Result<OpenRequest, Unread>
+        ensures { MatchResult result (ReadsOpening (texts_of fields.entry)) (NoOpening (texts_of fields.entry)) }
     {
         Ok(OpenRequest {
-            key: in_field(Field::Key, field::bytes(heap, parts.key))?,
-            nonce: in_field(Field::Nonce, field::bytes(heap, parts.nonce))?,
-            masks: in_field(Field::Masks, field::bytes(heap, parts.masks))?,
-            wire: in_field(Field::Wire, field::bytes(heap, parts.input))?,
-            tag: in_field(Field::Tag, field::bytes(heap, parts.sixth))?,
-            room: in_field(Field::Room, field::length(parts.seventh))?,
+            key: in_field(Field::Key, field::bytes(heap, fields.key))?,
+            nonce: in_field(Field::Nonce, field::bytes(heap, fields.nonce))?,
+            masks: in_field(Field::Masks, field::bytes(heap, fields.masks))?,
+            wire: in_field(Field::Wire, field::bytes(heap, fields.input))?,
+            tag: in_field(Field::Tag, field::bytes(heap, fields.sixth))?,
+            room: in_field(Field::Room, field::length(fields.seventh))?,
         })
     }
 }
@@ -153,13 +153,13 @@ pub enum Request {
 }
 
 impl Request {
-    /// Reads the parts of a line.
-    fn read(heap: Global, parts: Parts<'_>) -> Result<Request, Unread>
-        ensures { MatchResult result (Reads (texts_of parts.entry)) (NotRead (texts_of parts.entry)) }
+    /// Reads the texts of the seven fields.
+    fn read(heap: Global, fields: Fields<'_>) -> Result<Request, Unread>
+        ensures { MatchResult result (Reads (texts_of fields.entry)) (NotRead (texts_of fields.entry)) }
     {
-        match parts.call {
-            "seal" => Ok(Request::Seal(SealRequest::read(heap, parts)?)),
-            "open" => Ok(Request::Open(OpenRequest::read(heap, parts)?)),
+        match fields.call {
+            "seal" => Ok(Request::Seal(SealRequest::read(heap, fields)?)),
+            "open" => Ok(Request::Open(OpenRequest::read(heap, fields)?)),
             _ => Err(Unread::OtherCall),
         }
     }
@@ -171,6 +171,6 @@ impl Request {
         let Ok(text) = std::str::from_utf8(line) else {
             return Err(Unread::NotText);
         };
-        Request::read(heap, Parts::cut(heap, text)?)
+        Request::read(heap, Fields::cut(heap, text)?)
     }
 }

@@ -9,7 +9,7 @@ use Rattle.requests.proofs.request.OpenRequest.read.Goals as goal
 
 pub returns-in_err-in_field-4 : goal.returns-in_err-in_field-4
 returns-in_err-in_field-4 c =
-    let f = c.args.parts in
+    let f = c.args.fields in
     let p = err_from_is_err_and c.from_residual-in_err-in_field-4.result c.from_residual-in_err-in_field-4.ensures.1 in
     let fault = err_of (λ v. FieldBytes f.input.now (vec_items v)) (NoBytes f.input.now) (InField Wire) c.bytes-4.result _ c.in_err-in_field-4.ensures c.bytes-4.ensures in
     rw (p.1, p.2) (
@@ -26,7 +26,7 @@ returns-in_err-in_field-4 c =
 
 pub returns-in_err-in_field-5 : goal.returns-in_err-in_field-5
 returns-in_err-in_field-5 c =
-    let f = c.args.parts in
+    let f = c.args.fields in
     let p = err_from_is_err_and c.from_residual-in_err-in_field-5.result c.from_residual-in_err-in_field-5.ensures.1 in
     let fault = err_of (λ v. FieldBytes f.sixth.now (vec_items v)) (NoBytes f.sixth.now) (InField Tag) c.bytes-5.result _ c.in_err-in_field-5.ensures c.bytes-5.ensures in
     rw (p.1, p.2) (
@@ -44,7 +44,7 @@ returns-in_err-in_field-5 c =
 
 pub returns-in_err-in_field-6 : goal.returns-in_err-in_field-6
 returns-in_err-in_field-6 c =
-    let f = c.args.parts in
+    let f = c.args.fields in
     let p = err_from_is_err_and c.from_residual-in_err-in_field-6.result c.from_residual-in_err-in_field-6.ensures.1 in
     let fault = err_of (LengthOf f.seventh.now) (NoLength f.seventh.now) (InField Room) c.length.result _ c.in_err-in_field-6.ensures c.length.ensures in
     rw (p.1, p.2) (
