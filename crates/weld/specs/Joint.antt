@@ -30,7 +30,7 @@ Begins nonce (Some (Finish tag)) = ⊥
 Begins nonce None = ⊥
 
 -- What comes of a call that was made on the sealer, where the next word has this fate: the nonce, the word, the tag, and nothing of a message
--- that was given up. A run in which a call was refused or not made is given up itself.
+-- that was given up. Of a call that was refused or not made this cannot hold: then there is no report.
 abbrev pub ComesOfCall : SealerEntry → Fate → Option ReceiverCall → Type 0
 ComesOfCall (Begun nonce) fate call = Begins nonce call
 ComesOfCall (Sealed mask plain wire) fate call = ComesOfWord fate mask wire call

@@ -3,6 +3,7 @@ pub mod Joint
 pub mod Runs
 pub mod Crossings
 pub mod Passages
+pub mod Failures
 pub mod Lines
 pub mod Tallies
 pub mod Alone

@@ -20,7 +20,7 @@ pub data Telling : Type 0 where
   lost : (place mask : ℕ) → Telling
   altered : (place mask wire came : ℕ) → Telling
   broken_off : Telling
-  ended : List ℕ → Verdict → Telling
+  finished : List ℕ → Verdict → Telling
   abandoned : Telling
 
 -- What is told of a word that was sent.
@@ -36,7 +36,7 @@ told (event.Begun message nonce) = begun message nonce
 told (event.Word sent answer) = told_of_word sent answer
 told (event.Altered sent came) = altered sent.place sent.mask sent.wire came
 told event.Break = broken_off
-told (event.Ended tag verdict) = ended tag verdict
+told (event.Ended tag verdict) = finished tag verdict
 told event.Abandoned = abandoned
 
 -- Readings of consecutive words, from a place on.
@@ -56,10 +56,11 @@ tells (Lost places) =
     map (λ place. lost place places.mask) (range_with_len places.span.first (places.span.last + 1 - places.span.first))
 tells (Altered places wire came) = altered places.span.first places.mask wire came ∷ []
 tells Break = broken_off ∷ []
-tells (Ended tag verdict) = ended tag verdict ∷ []
+tells (Ended tag verdict) = finished tag verdict ∷ []
 tells Abandoned = abandoned ∷ []
 
--- A line has at least one place, and as many places as it has readings or rows.
+-- How many places a line has: readings as many as there are of them, a false reading and an altered word one, lost words at least one, and
+-- withheld words at least one and as many as rows. The other lines have none.
 abbrev pub PlacesFit : Line → Type 0
 PlacesFit (Heading message nonce) = ⊤
 PlacesFit (Readings places values) = places.span.first + length values.items ≡ places.span.last + 1

@@ -1,6 +1,7 @@
 -- What the program reports, and what it prints of that.
 use Rattle.std.specs.Prelude.{◌≡◌, ℕ, List, length, vec_items, Option}
 use Rattle.std.specs.Io.KnownBytes.{Appends}
+use Rattle.fields.specs.Texts.{ended}
 use Rattle.link.specs.Issuing.{nonce_bytes}
 use Rattle.weld.specs.Alone.{SealedAlone}
 use Rattle.weld.specs.Crossings.{Crosses}
@@ -9,7 +10,7 @@ use Rattle.weld.specs.Passages.{seen_in}
 use Rattle.weld.specs.Runs.{KeepsLaw}
 use Rattle.weld.specs.Scenario.{the_key, the_run, thickness_at}
 use Rattle.weld.specs.Tallies.{counted}
-use Rattle.weld.specs.Texts.{ended, report_text}
+use Rattle.weld.specs.Texts.{report_text}
 use Rattle.weld.specs.declared.Findings.{Findings}
 use Rattle.weld.specs.declared.scenario.Plan.{Plan}
 

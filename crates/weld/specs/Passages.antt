@@ -11,8 +11,8 @@ use Rattle.weld.specs.declared.passage.Event.{Event}
 use Rattle.weld.specs.declared.passage.Event.TheVariants.{Begun, Word, Altered, Break, Ended, Abandoned}
 use Rattle.weld.specs.declared.passage.Sent.{Sent}
 
--- A log read so far, which is what a reader of the code stands for: how many messages were begun, the place of the next word, the latest word
--- sent as long as nothing came after it, and what was seen.
+-- A log read so far, which is what a `Reader` of src/passage.rt stands for: how many messages were begun, the place of the next word, the latest
+-- word sent as long as nothing came after it, and what was seen.
 pub record ReadSoFar : Type 0 where
   pub begun : ℕ
   pub place : ℕ
@@ -31,7 +31,7 @@ seeing e s = record { begun = s.begun; place = s.place; pending = s.pending; see
 abbrev pub none_pending : ReadSoFar → ReadSoFar
 none_pending s = record { begun = s.begun; place = s.place; pending = None; seen = s.seen }
 
--- Something else happens than that the word sent is received: the word is lost.
+-- Something else happens before the word under way is received: the word is lost.
 abbrev pub settled_by : Option Sent → ReadSoFar → ReadSoFar
 settled_by None s = none_pending s
 settled_by (Some w) s = seeing (Word w None) (none_pending s)

@@ -27,7 +27,7 @@ the_run = 1207
 abbrev pub thickness_at : ℕ → ℕ
 thickness_at place = 940 + place * 37 % 61
 
--- The mileage at a place, in metres: the joint's first word is at 2000, and no more than 16 bits hold is said.
+-- The mileage at a place, in metres: 2000 at a message's first word, and it stays at the largest number that 16 bits hold.
 abbrev pub mileage_at : ℕ → ℕ
 mileage_at place = min (2000 + place) (2 ^ 16 - 1)
 

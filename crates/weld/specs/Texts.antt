@@ -2,7 +2,7 @@
 use Rattle.std.specs.Prelude.{ℕ, List, [], ◌∷◌, ◌++◌, cond, codes, vec_items, ◌==◌}
 use Rattle.std.specs.Fmt.{decimal}
 use Rattle.std.specs.List.{flat_map}
-use Rattle.fields.specs.Texts.{hex_text}
+use Rattle.fields.specs.Texts.{ended, hex_text}
 use Rattle.link.specs.Receiving.{verdict_text}
 use Rattle.sss.specs.Bytes.{bytes_of_words, hex_of_word}
 use Rattle.sss.specs.Masks.{kind_of}
@@ -68,10 +68,6 @@ abbrev pub tally_text : Tally → List ℕ
 tally_text tally =
     codes "sealed " ++ decimal tally.sealed ++ codes " received " ++ decimal tally.received ++ codes " handed-out " ++ decimal tally.handed_out
     ++ codes " withheld " ++ decimal tally.withheld ++ codes " false " ++ decimal tally.false_readings
-
--- A text with a line's end.
-abbrev pub ended : List ℕ → List ℕ
-ended text = text ++ 0x0A ∷ []
 
 -- What stands first.
 abbrev pub opening_text : List ℕ

@@ -1,8 +1,12 @@
 //! The runs of the link: a sealer and a receiver of one key that work by different implementations.
-ghost use Rattle.std.specs.Prelude.{◌≡◌, ◌+◌, length, IfOk, OnOk};
+ghost use Rattle.std.specs.Prelude.{◌≡◌, ◌+◌, ◌⊎◌, length, IfErr, IfOk, OnOk};
+ghost use Rattle.sss.specs.Cipher.{KeyFits};
+ghost use Rattle.sss.specs.declared.Fault.TheVariants.{Key};
 ghost use Rattle.weld.specs.Crossings.{Crosses};
+ghost use Rattle.weld.specs.Failures.{OfMemory};
 ghost use Rattle.weld.specs.Runs.{IsRunOf, KeepsLaw};
 ghost use Rattle.weld.specs.Scenario.{the_key};
+ghost use Rattle.weld.specs.declared.failure.Failure.TheVariants.{Refused};
 
 use crate::failure::Failure;
 use crate::scenario::{KEY, Plan, RUN};
@@ -18,6 +22,7 @@ pub type Link = History<FilledTable, PrintedTable, FromKey, FieldRule>;
 pub(crate) fn run(key: &[u8], calls: Vec<Call>) -> Result<Link, Failure>
     ensures law { IfOk result (KeepsLaw key.now) }
     ensures run { IfOk result (IsRunOf key.now calls.items) }
+    ensures failure { IfErr result (λ e. OfMemory e ⊎ ((KeyFits key.now → ⊥) × (e ≡ Refused Key))) }
 {
     let filled = FilledTable::of(key)?;
     let worked_out = FromKey::of(key)?;

@@ -1,7 +1,8 @@
 //! The joint of the pipe between the two ends: which calls on the receiver come of what the sealer sent.
-ghost use Rattle.std.specs.Prelude.{◌≡◌, ◌∷◌, ◌++◌, IfOk, OnOk};
+ghost use Rattle.std.specs.Prelude.{◌≡◌, ◌∷◌, ◌++◌, MatchResult, OnOk};
 ghost use Rattle.std.specs.List.{zip};
 ghost use Rattle.std.specs.Slice.Iter.{iter_rest};
+ghost use Rattle.weld.specs.Failures.{Fails, OfMemory, joint_failure, joint_log_failure};
 ghost use Rattle.weld.specs.Joint.{AddsFates, AreFates, CarriesAcross, ComesOf, ComesOfWord, at_receiver, fates_after, next_fate, words_of};
 
 use crate::failure::Failure;
@@ -33,7 +34,7 @@ fn carried(
     entry: &Entry,
     fates: &mut Iter<'_, Fate>,
 ) -> Result<Option<ReceiverCall>, Failure>
-    ensures call { IfOk result (ComesOf entry.now (next_fate (iter_rest fates.old))) }
+    ensures call { MatchResult result (ComesOf entry.now (next_fate (iter_rest fates.old))) (Fails (joint_failure entry.now)) }
     ensures fates { OnOk result (iter_rest fates.new ≡ fates_after entry.now (iter_rest fates.old)) }
 {
     let Entry::OfSealer(entry) = entry else {
@@ -54,7 +55,7 @@ fn carried(
 
 /// Adds the fates of a message's words behind those of other words.
 fn message_fates(plan: &Plan, fates: &mut Vec<Fate>) -> Result<(), Failure>
-    ensures { OnOk result (AddsFates plan.now fates.old.items fates.new.items) }
+    ensures { MatchResult result (λ _. AddsFates plan.now fates.old.items fates.new.items) OfMemory }
 {
     for place in 0..plan.words {
         fates.push(plan.fate(place))?;
@@ -64,7 +65,7 @@ fn message_fates(plan: &Plan, fates: &mut Vec<Fate>) -> Result<(), Failure>
 
 /// The fates of all words, message by message.
 fn fates(heap: Global, plans: &[Plan]) -> Result<Vec<Fate>, Failure>
-    ensures { IfOk result (λ v. AreFates (words_of plans.now) v.items) }
+    ensures { MatchResult result (λ v. AreFates (words_of plans.now) v.items) OfMemory }
 {
     let mut fates = Vec::new(heap);
     for plan in plans {
@@ -75,7 +76,7 @@ fn fates(heap: Global, plans: &[Plan]) -> Result<Vec<Fate>, Failure>
 
 /// Adds a call on the sealer, and behind it the receiver's call that comes of it, if one comes.
 fn join(call: Call, came: Option<ReceiverCall>, calls: &mut Vec<Call>) -> Result<(), Failure>
-    ensures { OnOk result (calls.new.items ≡ calls.old.items ++ (call ∷ at_receiver came)) }
+    ensures { MatchResult result (λ _. calls.new.items ≡ calls.old.items ++ (call ∷ at_receiver came)) OfMemory }
 {
     calls.push(call)?;
     if let Some(call) = came {
@@ -86,7 +87,7 @@ fn join(call: Call, came: Option<ReceiverCall>, calls: &mut Vec<Call>) -> Result
 
 /// The calls of the whole link: each call on the sealer, and behind it what comes of it at the receiver, by the log of those calls.
 pub(crate) fn calls(plans: &[Plan], sealing: Vec<Call>, log: &[Entry]) -> Result<Vec<Call>, Failure>
-    ensures { IfOk result (λ v. CarriesAcross plans.now (zip sealing.items log.now) v.items) }
+    ensures { MatchResult result (λ v. CarriesAcross plans.now (zip sealing.items log.now) v.items) (Fails (joint_log_failure (zip sealing.items log.now))) }
 {
     let heap = *sealing.allocator();
     let fates = fates(heap, plans)?;

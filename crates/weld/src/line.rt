@@ -124,7 +124,7 @@ impl Line {
     }
 }
 
-/// Takes one more lost word in, if it follows.
+/// Takes one more lost word in, if it follows under the same mask.
 fn one_more_lost(places: &mut Places, sent: &Sent) -> bool
     requires { PlacesFit (Line.Lost places.old) }
     ensures { CarriesOn result (Line.Lost places.old) (told_of_word sent.now None) (Line.Lost places.new) }
@@ -132,7 +132,7 @@ fn one_more_lost(places: &mut Places, sent: &Sent) -> bool
     places.takes(sent)
 }
 
-/// Takes one more withheld word in, if it follows and its row does.
+/// Takes one more withheld word in, if it follows under the same mask and its row follows too.
 fn one_more_withheld(places: &mut Places, rows: &mut Span<u8>, sent: &Sent, row: u8) -> bool
     requires { PlacesFit (Line.Withheld places.old rows.old) }
     ensures { CarriesOn result (Line.Withheld places.old rows.old) (told_of_word sent.now (Some (Answer.Withheld row))) (Line.Withheld places.new rows.new) }
@@ -144,7 +144,7 @@ fn one_more_withheld(places: &mut Places, rows: &mut Span<u8>, sent: &Sent, row:
     goes_on
 }
 
-/// Takes one more reading in, if its word follows, it is the plaintext of that word, and the line has room for it.
+/// Takes one more reading in, if its word follows under the same mask, it is the plaintext of that word, and the line has room for it.
 fn one_more_reading(
     places: &mut Places,
     values: &mut ArrayVec<u16, WIDTH>,

@@ -1,6 +1,7 @@
 //! The log of a run read as what an onlooker at the joint sees: which received word is which word of which message.
-ghost use Rattle.std.specs.Prelude.{◌≡◌, IfOk, OnOk};
-ghost use Rattle.weld.specs.Passages.{ReadSoFar, message_begun, noted, receiver_noted, sealer_noted, seeing, seen_in, settled, word_received, word_sent};
+ghost use Rattle.std.specs.Prelude.{◌≡◌, MatchResult, None};
+ghost use Rattle.weld.specs.Failures.{Fails, OfMemory, entry_failure, log_failure, receiver_failure, sealer_failure, unsent_failure};
+ghost use Rattle.weld.specs.Passages.{ReadSoFar, message_begun, noted, receiver_noted, sealer_noted, seeing, seen_in, settled, unread, word_received, word_sent};
 
 use crate::failure::Failure;
 use link::{Answer, Entry, ReceiverEntry, SealerEntry, Verdict};
@@ -58,7 +59,7 @@ impl Model for Reader {
 impl Reader {
     /// The word under way was not received before something else happened: it is lost.
     fn settle(&mut self) -> Result<(), Failure>
-        ensures { OnOk result (self.new ≡ settled self.old) }
+        ensures { MatchResult result (λ _. self.new ≡ settled self.old) OfMemory }
     {
         if let Some(sent) = self.pending.take() {
             self.seen.push(Event::Word { sent, answer: None })?;
@@ -66,9 +67,9 @@ impl Reader {
         Ok(())
     }
 
-    /// Something is seen that is not that the word under way is received.
+    /// Something else is seen than the word under way coming.
     fn see(&mut self, event: Event) -> Result<(), Failure>
-        ensures { OnOk result (self.new ≡ seeing event (settled self.old)) }
+        ensures { MatchResult result (λ _. self.new ≡ seeing event (settled self.old)) OfMemory }
     {
         self.settle()?;
         self.seen.push(event)?;
@@ -77,7 +78,7 @@ impl Reader {
 
     /// A message is begun.
     fn begun(&mut self, nonce: [u8; 6]) -> Result<(), Failure>
-        ensures { OnOk result (self.new ≡ message_begun nonce self.old) }
+        ensures { MatchResult result (λ _. self.new ≡ message_begun nonce self.old) OfMemory }
     {
         self.begun = self.begun.saturating_add(1);
         self.place = 0;
@@ -102,7 +103,7 @@ impl Reader {
 
     /// A word is received: it is the one under way.
     fn received(&mut self, wire: u16, answer: Answer) -> Result<(), Failure>
-        ensures { OnOk result (self.new ≡ word_received wire answer self.old) }
+        ensures { MatchResult result (λ _. (unsent_failure self.old.pending ≡ None) × (self.new ≡ word_received wire answer self.old)) (Fails (unsent_failure self.old.pending)) }
     {
         let Some(sent) = self.pending.take() else {
             return Err(Failure::NotSent);
@@ -117,7 +118,7 @@ impl Reader {
 
     /// Takes a call on the sealer.
     fn of_sealer(&mut self, entry: &SealerEntry) -> Result<(), Failure>
-        ensures { OnOk result (self.new ≡ sealer_noted self.old entry.now) }
+        ensures { MatchResult result (λ _. (sealer_failure entry.now ≡ None) × (self.new ≡ sealer_noted self.old entry.now)) (Fails (sealer_failure entry.now)) }
     {
         self.settle()?;
         match entry {
@@ -133,7 +134,7 @@ impl Reader {
 
     /// Takes a call on the receiver.
     fn of_receiver(&mut self, entry: &ReceiverEntry) -> Result<(), Failure>
-        ensures { OnOk result (self.new ≡ receiver_noted self.old entry.now) }
+        ensures { MatchResult result (λ _. (receiver_failure self.old.pending entry.now ≡ None) × (self.new ≡ receiver_noted self.old entry.now)) (Fails (receiver_failure self.old.pending entry.now)) }
     {
         match entry {
             ReceiverEntry::Begun(_) => Ok(()),
@@ -149,7 +150,7 @@ impl Reader {
 
     /// Takes a call.
     fn take(&mut self, entry: &Entry) -> Result<(), Failure>
-        ensures { OnOk result (self.new ≡ noted self.old entry.now) }
+        ensures { MatchResult result (λ _. (entry_failure self.old.pending entry.now ≡ None) × (self.new ≡ noted self.old entry.now)) (Fails (entry_failure self.old.pending entry.now)) }
     {
         match entry {
             Entry::OfSealer(entry) => self.of_sealer(entry),
@@ -161,7 +162,7 @@ impl Reader {
 /// What is seen in a run, by its log.
 #[tactic(auto, unfolding(crate::specs::Passages::seen_in))]
 pub(crate) fn events(heap: Global, log: &[Entry]) -> Result<Vec<Event>, Failure>
-    ensures { IfOk result (λ v. v.items ≡ seen_in log.now) }
+    ensures { MatchResult result (λ v. (log_failure unread log.now ≡ None) × (v.items ≡ seen_in log.now)) (Fails (log_failure unread log.now)) }
 {
     let mut reader = Reader {
         begun: 0,

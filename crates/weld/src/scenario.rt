@@ -15,7 +15,7 @@ pub(crate) const RUN: u32 = 1207;
 /// The mask of a part word: the low twelve bits are sealed.
 const PART: u16 = 0x0FFF;
 
-/// The mileage of the joint's first word, in metres.
+/// The mileage at a message's first word, in metres.
 const MILEAGE: u16 = 2000;
 
 /// What an altered word is changed by on the way.
