@@ -1,4 +1,6 @@
 pub mod Added
+pub mod Refused
+pub mod Before
 pub mod Chunked
 pub mod Placed
 pub mod Texts

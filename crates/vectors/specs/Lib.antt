@@ -3,6 +3,7 @@ pub mod Lines
 pub mod Texts
 pub mod Masks
 pub mod Ways
+pub mod Refusals
 pub mod Tallies
 pub mod Counts
 pub mod Reports

@@ -16,6 +16,7 @@ use Rattle.vectors.specs.declared.vector.Malformed.{Malformed}
 use Rattle.vectors.specs.declared.vector.Vector.{Vector}
 use Rattle.vectors.specs.Lines.{Parses, NotParsed}
 use Rattle.vectors.specs.Masks.{mask_is}
+use Rattle.vectors.specs.Refusals.{Fit, StopsFor}
 use Rattle.vectors.specs.Tallies.{after_compared, after_malformed, after_refused}
 use Rattle.vectors.specs.Texts.{difference_text, function_text, malformed_text, coefficient_text, stopped_text}
 use Rattle.vectors.specs.Ways.{AllWays, NoneExactly}
@@ -70,9 +71,9 @@ summary_text t = worked_text t ++ functions_text ++ coefficients_text ++ differ_
 -- agreeing where nothing was found; or why it was not compared, and it counts as refused.
 abbrev pub Compared : ℕ → Vector → Tally → Tally → List ℕ → Type 0
 Compared number v before after text =
-    ((found : List Difference) × AllWays v found × NoneExactly v found × (after ≡ after_compared (vec_len v.wire) (length found == 0) before) ×
+    ((found : List Difference) × Fit v × AllWays v found × NoneExactly v found × (after ≡ after_compared (vec_len v.wire) (length found == 0) before) ×
     (text ≡ comparison_text number v (nat_lt before.messages 5) found)) ⊎
-    ((why : Stopped) × (after ≡ after_refused (vec_len v.wire) before) × (text ≡ numbered number (stopped_text why)))
+    ((why : Stopped) × StopsFor v why × (after ≡ after_refused (vec_len v.wire) before) × (text ≡ numbered number (stopped_text why)))
 
 -- What is printed of a line: that of the message that it is, or why it is none.
 abbrev pub Told : ℕ → List ℕ → Tally → Tally → List ℕ → Type 0

@@ -3,6 +3,7 @@ ghost use Rattle.std.specs.Prelude.{◌≡◌, Some, IfOk, Decides, OnOk};
 ghost use Rattle.sss.specs.Asked.{Asked};
 ghost use Rattle.vectors.specs.declared.compare.Stopped.TheVariants.{Refused, NoMemory};
 ghost use Rattle.vectors.specs.Texts.{function_text, coefficient_text, way_text, comparison_text, difference_text, part_text, stopped_text};
+ghost use Rattle.vectors.specs.Refusals.{Takes, TakesWay};
 ghost use Rattle.vectors.specs.Ways.{Made, Holds, NoneExactly, Noted, Finds, Both, FromKeyWays, TableWays, AllWays};
 
 use crate::vector::Vector;
@@ -202,7 +203,8 @@ impl Outcome {
         a: &C,
         vector: &Vector,
     ) -> Result<Outcome, Stopped>
-        ensures { Asked K.KeyedFunction f.old f.new (λ g. IfOk result (Made g (C.image a.now) vector.now)) }
+        ensures fits { TakesWay vector.now result }
+        ensures made { Asked K.KeyedFunction f.old f.new (λ g. IfOk result (Made g (C.image a.now) vector.now)) }
     {
         let mut wire = Vec::from_slice(heap, &vector.plaintext)?;
         let sealed_tag = sss::seal_message(f, a, &vector.nonce, &mut wire)?;
@@ -256,7 +258,8 @@ impl Comparer<'_> {
         f: &mut K,
         function: FunctionName,
     ) -> Result<(), Stopped>
-        ensures { Asked K.KeyedFunction f.old f.new (λ g. OnOk result (Finds (λ v. Both g v function) self.old self.new)) }
+        ensures fits { TakesWay self.old.vector.now result }
+        ensures found { Asked K.KeyedFunction f.old f.new (λ g. OnOk result (Finds (λ v. Both g v function) self.old self.new)) }
     {
         let printed = Outcome::of(*self.found.allocator(), f, &PrintedTable, self.vector)?;
         self.note(
@@ -281,7 +284,8 @@ impl Comparer<'_> {
 
     /// The ways that compute the keyed function from the key.
     fn ways_from_key(&mut self) -> Result<(), Stopped>
-        ensures { OnOk result (Finds FromKeyWays self.old self.new) }
+        ensures fits { Takes self.old.vector.now result }
+        ensures found { OnOk result (Finds FromKeyWays self.old self.new) }
     {
         let mut computed = FromKey::of(&self.vector.key)?;
         self.two_ways(&mut computed, FunctionName::FromKey)?;
@@ -291,7 +295,8 @@ impl Comparer<'_> {
 
     /// The ways that look the keyed function up in a filled table.
     fn ways_from_table(&mut self) -> Result<(), Stopped>
-        ensures { OnOk result (Finds TableWays self.old self.new) }
+        ensures fits { Takes self.old.vector.now result }
+        ensures found { OnOk result (Finds TableWays self.old self.new) }
     {
         let mut filled = FilledTable::of(&self.vector.key)?;
         self.two_ways(&mut filled, FunctionName::FilledTable)?;
@@ -305,6 +310,7 @@ impl Comparer<'_> {
 
 /// Seals and opens the message in every way; answers what differs, which is nothing exactly where the message is as the published cipher has it.
 pub(crate) fn differences(heap: Global, vector: &Vector) -> Result<Vec<Difference>, Stopped>
+    ensures fits { Takes vector.now result }
     ensures value { IfOk result (λ v. AllWays vector.now v.items) }
     ensures none { IfOk result (λ v. NoneExactly vector.now v.items) }
 {

@@ -23,7 +23,7 @@ use std::io;
 use std::io::{BufRead, BufReader, Read, Write};
 use vector::{Malformed, Vector};
 
-/// How many messages are printed in full.
+/// Of how many lines, from the first on, the messages are printed in full.
 const SHOWN: usize = 5;
 
 // A line's number, the tally and the writer are passed one by one: a struct of a number and two references would be no plainer for three short functions.
@@ -89,7 +89,8 @@ fn take_all<R: Read + Drop, W: Write>(heap: Global, reader: R, writer: &mut W) -
 {
     report::figures(writer, functions::self_test())?;
     let mut tally = Tally::new();
-    // The number of the line taken last. Counted here and not by `enumerate`: nothing bounds how many lines come, and the number stays at the largest one.
+    // The number of the line taken last. Counted here and not by `enumerate`: nothing bounds how many lines come, and the number stays at the largest number
+    // that there is.
     let mut number = 0usize;
     // Whether the line read last is empty, and not taken yet: it is no message where the input ends there.
     let mut held = false;

@@ -4,7 +4,7 @@ ghost use Rattle.fields.specs.Cutting.{Cut};
 ghost use Rattle.fields.specs.Placing.{placed};
 ghost use Rattle.fields.specs.Reading.{FieldBytes};
 ghost use Rattle.sss.specs.Directions.{mask_of, text_of};
-ghost use Rattle.vectors.specs.Fields.{NoBytes, FieldWords, NoWords, NoTag, texts_of, NotCut};
+ghost use Rattle.vectors.specs.Fields.{NoBytes, FieldWords, NoWords, FieldTag, NoTag, texts_of, NotCut};
 ghost use Rattle.vectors.specs.Lines.{Reads, NotRead, Parses, NotParsed};
 ghost use Rattle.vectors.specs.Texts.{field_text, malformed_text};
 ghost use Rattle.vectors.specs.declared.vector.Malformed.TheVariants.{InField, NoMemory};
@@ -133,7 +133,7 @@ fn field_words(heap: Global, text: &str) -> Result<Vec<u16>, Flaw>
 
 /// The eight words of a tag's field.
 fn field_tag(heap: Global, text: &str) -> Result<[u16; 8], Flaw>
-    ensures value { MatchResult result (λ t. FieldWords text.now t) (NoTag text.now) }
+    ensures value { MatchResult result (FieldTag text.now) (NoTag text.now) }
 {
     let bytes = fields::bytes(heap, text)?;
     if bytes.len() != 16 {

@@ -17,7 +17,7 @@ returns-in-Ok-clause-printed g c =
     let none : c.is_empty.result ≡ (length found == 0) = search rules in
     let counted = c.compared.ensures.after ∙ (λ i. after_compared (c.len-words.ensures i) (none i) c.args.tally.now) in
     on_ok_weaker c.comparison.result
-    (λ appends. (text found, inl (found, c.in-Ok.ensures.value, c.in-Ok.ensures.none, counted, refl), subst (λ l. Appends (g.W.Write.contents c.args.writer.now) (g.W.Write.contents c.comparison.new.writer) (text l)) c.deref.ensures.value appends))
+    (λ appends. (text found, inl (found, c.in-Ok.ensures.fits, c.in-Ok.ensures.value, c.in-Ok.ensures.none, counted, refl), subst (λ l. Appends (g.W.Write.contents c.args.writer.now) (g.W.Write.contents c.comparison.new.writer) (text l)) c.deref.ensures.value appends))
     c.comparison.ensures
 
 pub returns-in-Err-clause-printed : goal.returns-in-Err-clause-printed
@@ -25,5 +25,5 @@ returns-in-Err-clause-printed g c =
     let text = numbered c.args.number (stopped_text c.in-Err.why) in
     let counted = c.refused.ensures.after ∙ ap (λ n. after_refused n c.args.tally.now) c.len-words.ensures in
     on_ok_weaker c.writeln.result
-    (λ appends. (text, inr (c.in-Err.why, counted, refl), subst (Appends (g.W.Write.contents c.args.writer.now) (g.W.Write.contents c.writeln.new.self)) (numbered_is (decimal c.args.number) (stopped_text c.in-Err.why)) appends))
+    (λ appends. (text, inr (c.in-Err.why, c.in-Err.ensures.fits, counted, refl), subst (Appends (g.W.Write.contents c.args.writer.now) (g.W.Write.contents c.writeln.new.self)) (numbered_is (decimal c.args.number) (stopped_text c.in-Err.why)) appends))
     c.writeln.ensures.bytes
