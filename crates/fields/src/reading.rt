@@ -1,5 +1,7 @@
 //! The bytes that a field stands for.
 ghost use Rattle.std.specs.Prelude.{◌≡◌, Some, MatchResult};
+ghost use Rattle.std.specs.List.{list_all};
+ghost use Rattle.hex.specs.Hex.{is_hex_digit};
 ghost use Rattle.fields.specs.Reading.{FieldBytes, NoBytes, fault_of};
 ghost use Rattle.fields.specs.Texts.{not_bytes_text};
 
@@ -52,6 +54,15 @@ pub fn bytes(heap: Global, text: &str) -> Result<Vec<u8>, NotBytes>
     match text {
         "" => Err(NotBytes::NoDigits),
         "-" => Ok(Vec::new(heap)),
+        // `decode` makes room for all the bytes before it reads a digit, so a bad one is refused here.
+        digits if digits.len() % 2 == 0 && !all_hex(digits) => Err(NotBytes::NotADigit),
         digits => Ok(hex::decode(heap, digits.as_bytes())?),
     }
+}
+
+/// Whether each character is a hex digit, in either case.
+fn all_hex(text: &str) -> bool
+    ensures { result ≡ list_all is_hex_digit text.now }
+{
+    text.bytes().all(|byte| byte.is_ascii_hexdigit())
 }

@@ -1,5 +1,5 @@
 -- The coefficient of the check register by its rule.
-use Rattle.std.specs.Prelude.{◌≡◌, ℕ, ◌+◌, ◌*◌, ◌/◌, ◌%◌, ◌<◌, ◌≤◌, List, map, bit_xor, nat_lt, slice_index, refl}
+use Rattle.std.specs.Prelude.{◌≡◌, ℕ, zero, suc, ◌+◌, ◌-◌, ◌*◌, ◌/◌, ◌%◌, ◌<◌, ◌≤◌, List, map, bit_xor, nat_lt, slice_index, refl}
 use Rattle.std.specs.List.{range_with_len}
 use Rattle.std.proofs.Common.{sym, ◌∙◌, ap, arith}
 use Rattle.std.proofs.lemmas.List.FromFn.{get_or-map-range_with_len}
@@ -31,6 +31,16 @@ times_z_high a w h =
     let block = xor_block 16 1 1 x 0x500F low (omega arith) in
     sym (cond-false (nat_lt a 32768) (a * 2) (bit_xor (a * 2) 0x1500F) (le-ltb a 32768 h) ∙
     ap (λ (y : ℕ). bit_xor y 0x1500F) split ∙ block ∙ omega arith)
+
+-- The powers of z, one step at a time.
+pub times_z_power_more : (n a : ℕ) → 0 < n → times_z_power n a ≡ times_z_power (n - 1) (times_z a)
+unfolding times_z_power
+times_z_power_more zero a h = absurd (omega arith)
+times_z_power_more (suc n) a h = let e : n ≡ suc n - 1 = omega arith in ap (λ (k : ℕ). times_z_power k (times_z a)) e
+
+pub times_z_power_none : (n a : ℕ) → n ≡ 0 → times_z_power n a ≡ a
+unfolding times_z_power
+times_z_power_none n a e = ap (λ (k : ℕ). times_z_power k a) e
 
 -- The coefficient by the rule is the coefficient by the table.
 pub product_by_rule : (a : ℕ) → Word a → bit_xor (a % 256 * 256) (times_z_power 16 (a / 256)) ≡ product a

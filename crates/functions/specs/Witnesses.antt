@@ -43,10 +43,10 @@ products_length : length products ≡ 256
 unfolding products
 products_length = refl
 
-product_entry_word : (i : ℕ) → i < 256 → Word (slice_index products i)
+pub product_entry_word : (i : ℕ) → i < 256 → Word (slice_index products i)
 product_entry_word i h = let same = read_at (λ x. x % 65536) products products products_words i (omega (arith, products_length)) in omega arith
 
-product_low_apart : (i j : ℕ) → i < 256 → j < 256 → slice_index products i % 256 ≡ slice_index products j % 256 → i ≡ j
+pub product_low_apart : (i j : ℕ) → i < 256 → j < 256 → slice_index products i % 256 ≡ slice_index products j % 256 → i ≡ j
 product_low_apart = apart_at (λ x. x % 256) products 256 products_places
 
 -- THE COEFFICIENT is one-to-one.

@@ -239,9 +239,9 @@ pub struct Comparer<'a> {
 }
 
 impl Comparer<'_> {
-    /// Adds each comparison of this way that fails.
-    fn note(&mut self, way: Way, outcome: &Outcome) -> Result<(), AllocError>
-        ensures { OnOk result (Finds (Noted outcome.now way) self.old self.new) }
+    /// Adds each comparison of this way that fails. The outcome is let go here, so that its words are in memory no longer when the next way is gone.
+    fn note(&mut self, way: Way, outcome: Outcome) -> Result<(), AllocError>
+        ensures { OnOk result (Finds (Noted outcome way) self.old self.new) }
     {
         for comparison in Comparison::ALL {
             if !outcome.holds(self.vector, comparison) {
@@ -267,7 +267,7 @@ impl Comparer<'_> {
                 function,
                 coefficient: CoefficientName::PrintedTable,
             },
-            &printed,
+            printed,
         )?;
         let ruled = Outcome::of(*self.found.allocator(), f, &FieldRule, self.vector)?;
         self.note(
@@ -275,7 +275,7 @@ impl Comparer<'_> {
                 function,
                 coefficient: CoefficientName::FieldRule,
             },
-            &ruled,
+            ruled,
         )?;
         Ok(())
     }

@@ -29,7 +29,7 @@ loop-comparison-preserved c =
     let so_far = c.loop-comparison.invariant.so_far in
     let same = c.loop-comparison.invariant.same in
     let i = c.loop-comparison.comparison-index in
-    let o = c.args.outcome.now in
+    let o = c.args.outcome in
     let v = c.args.self.now.vector.now in
     let k = get_or all i Wire in
     let test : c.holds.result ≡ held o v k = same_from_decides _ _ (subst (λ (x : Vector). Decides c.holds.result (Holds o x k)) (ap (λ (r : Bor Vector). r.now) same) c.holds.ensures.value) (held_decides o v k) in
@@ -54,7 +54,7 @@ loop-comparison-preserved c =
 
 pub returns : goal.returns
 returns c =
-    let o = c.args.outcome.now in
+    let o = c.args.outcome in
     let v = c.args.self.now.vector.now in
     let f = failed (held o v) c.args.way in
     let so_far = c.loop-comparison.invariant.so_far in
