@@ -64,5 +64,10 @@ pub fn bytes(heap: Global, text: &str) -> Result<Vec<u8>, NotBytes>
 fn all_hex(text: &str) -> bool
     ensures { result ≡ list_all is_hex_digit text.now }
 {
-    text.bytes().all(|byte| byte.is_ascii_hexdigit())
+    // No early way out, so that the loop tests many characters at a time: nearly every text has no bad one.
+    let mut all = true;
+    for byte in text.as_bytes() {
+        all &= byte.is_ascii_hexdigit();
+    }
+    all
 }

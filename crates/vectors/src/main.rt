@@ -17,10 +17,11 @@ mod report;
 mod vector;
 mod words;
 
+use fields::Lines;
 use report::Tally;
 use std::alloc::Global;
 use std::io;
-use std::io::{BufRead, BufReader, LineWriter, Read, Write};
+use std::io::{BufRead, BufReader, Read, Write};
 use vector::{Malformed, Vector};
 
 /// Of how many lines, from the first on, the messages are printed in full.
@@ -110,8 +111,8 @@ fn take_all<R: Read + Drop, W: Write>(heap: Global, reader: R, writer: &mut W) -
 }
 
 fn main(rt: HostRuntime) -> io::Result<()> {
-    // A line is written as a whole, and at once. With no memory to hold one, each piece of it is written as it comes.
-    match LineWriter::new(rt.alloc(), rt.stdout()) {
+    // With no memory to hold a line back, each piece of it is written as it comes.
+    match Lines::new(rt.alloc(), rt.stdout()) {
         Ok(mut lines) => take_all(rt.alloc(), rt.reader(), &mut lines),
         Err(_) => take_all(rt.alloc(), rt.reader(), &mut rt.stdout()),
     }

@@ -20,12 +20,13 @@ mod tally;
 
 use crossing::Link;
 use failure::Failure;
+use fields::Lines;
 use line::Line;
 use link::Issuer;
 use scenario::Plan;
 use spot::SpotCheck;
 use std::alloc::Global;
-use std::io::{LineWriter, Write};
+use std::io::Write;
 use tally::Tally;
 
 /// A run, and what there is to report of it.
@@ -68,8 +69,8 @@ fn reported<W: Write>(heap: Global, plans: &[Plan], writer: &mut W) -> anyhow::R
 }
 
 fn main(rt: HostRuntime) -> anyhow::Result<()> {
-    // A line is written as a whole, and at once. With no memory to hold one, each piece of it is written as it comes.
-    match LineWriter::new(rt.alloc(), rt.stdout()) {
+    // With no memory to hold a line back, each piece of it is written as it comes.
+    match Lines::new(rt.alloc(), rt.stdout()) {
         Ok(mut lines) => reported(rt.alloc(), &scenario::PLANS, &mut lines),
         Err(_) => reported(rt.alloc(), &scenario::PLANS, &mut rt.stdout()),
     }
