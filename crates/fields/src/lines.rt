@@ -1,7 +1,7 @@
 //! Lines that are written as a whole.
 ghost use Rattle.std.specs.Prelude.{◌≡◌, [], true, IfOk, IfErr, OnOk};
 ghost use Rattle.std.specs.Io.BufRead.{ends_with_byte};
-ghost use Rattle.std.specs.Io.Buffered.{writer_buffer, writer_contents};
+ghost use Rattle.std.specs.Io.Buffered.{writer_buffer, writer_capacity, writer_contents};
 ghost use Rattle.std.specs.Io.KnownBytes.{Appends, Keeps};
 ghost use Rattle.std.specs.IoError.{error_kind};
 
@@ -9,8 +9,8 @@ use std::alloc::Global;
 use std::io;
 use std::io::{BufWriter, ErrorKind, Write};
 
-/// A writer that holds back what is written until a piece ends a line, and then writes it out: a line of at most 1,024 bytes in one write, where its pieces
-/// are all that is held. What is still held when it is let go is not written: a line whose writing failed is not tried again.
+/// A writer that holds back the pieces of a line until one ends it, and then writes the line out: in one write, if it has at most 1,024 bytes and nothing was
+/// held before it. What is still held when the writer is let go is not written: a line whose writing failed is not tried again.
 // The library's `LineWriter` looks at each byte of each piece for the end of a line, which takes up to half as long again where a line has many pieces.
 pub struct Lines<W: Write + Drop> {
     held: BufWriter<W>,
@@ -21,6 +21,7 @@ impl<W: Write + Drop> Lines<W> {
     pub fn new(heap: Global, writer: W) -> io::Result<Self>
         ensures bytes { IfOk result (λ lines. Keeps (W.contents writer) (writer_contents W.contents lines.held)) }
         ensures empty { IfOk result (λ lines. writer_buffer lines.held ≡ []) }
+        ensures room { IfOk result (λ lines. writer_capacity lines.held ≡ 1024) }
         ensures err { IfErr result (λ e. error_kind e ≡ ErrorKind.OutOfMemory) }
     {
         let held = BufWriter::with_capacity(heap, 1024, writer)?;

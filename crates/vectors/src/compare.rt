@@ -239,7 +239,7 @@ pub struct Comparer<'a> {
 }
 
 impl Comparer<'_> {
-    /// Adds each comparison of this way that fails. The outcome is let go here, so that its words are in memory no longer when the next way is gone.
+    /// Adds each comparison of this way that fails. The outcome is let go here: a long message is held in memory for one way at a time.
     fn note(&mut self, way: Way, outcome: Outcome) -> Result<(), AllocError>
         ensures { OnOk result (Finds (Noted outcome way) self.old self.new) }
     {
